@@ -1,5 +1,6 @@
 -- The square of a resize: the block has the counts named in both, wires and split ports at dropped positions go, a port that stays is as split as it was, and
 -- a new one is not split.
+use Rattle.std.proofs.lemmas.Bool.{cases_eq}
 use Rattle.std.specs.Prelude.{◌≡◌, Bool, cond, List, [], ◌∷◌, map, ◌⊎◌, ℕ, ◌+◌, ◌≤◌, ◌<◌, leb, take, drop, Result, Ok, Err}
 use Rattle.std.proofs.Math.Path.{refl, sym, ap, subst}
 use Rattle.std.proofs.Common.{◌∙◌, inl, inr, ⊎_elim}
@@ -30,7 +31,7 @@ use Rattle.port_tables.specs.Listing.{member_filter, member_map, map_member, ris
 use Rattle.multiportgraph.specs.LinkCutLaws.{at_spot_is}
 use Rattle.port_tables.specs.Places.{Place, spot, of_dropped, without}
 use Rattle.multiportgraph.specs.Reading.{is_hidden, is_split}
-use Rattle.multiportgraph.specs.RecountLaws.{Recount, SomeRecount, set_recounts, count_new, number_cases}
+use Rattle.multiportgraph.specs.RecountLaws.{Recount, SomeRecount, set_recounts, count_new}
 use Rattle.multiportgraph.specs.SetLaws.{SetDone, set_counts_law, all_go, resize_loosens, resize_tracks}
 use Rattle.multiportgraph.specs.Wires.{ports_walked}
 use Rattle.multiportgraph.specs.declared.multiportgraph.MultiPortGraph.{MultiPortGraph}
@@ -228,13 +229,13 @@ module _ {b : Both} {M : Model} (a : Alike b M) (n k i o : ℕ) where
           ∙ old_port s' (λ z. absurd (other z))
 
       subports : Counted
-      subports = ⊎_elim at_block elsewhere (number_cases y.node n)
+      subports = ⊎_elim at_block elsewhere (cases_eq y.node n)
 
     -- Blocks.
 
     named : (x : Naming) → Member x b.names →
         (c : NodeMeta) × BlockIs g d.model' x.node c × Member (record { name = x.name; incoming = c.incoming; outgoing = c.outgoing }) plan_set.blocks
-    named x j = ⊎_elim its other (number_cases x.node n)
+    named x j = ⊎_elim its other (cases_eq x.node n)
       where
         r : (c : NodeMeta) × BlockIs m M x.node c × Member (record { name = x.name; incoming = c.incoming; outgoing = c.outgoing }) b.plan.blocks
         r = a.named x j
@@ -281,7 +282,7 @@ module _ {b : Both} {M : Model} (a : Alike b M) (n k i o : ℕ) where
           apart = a.apart;
           given = a.given;
           named = named;
-          kit_named = λ c l w. ⊎_elim (λ q. (naming n k, h.named, sym q)) (λ other. a.kit_named c l (d.others_back c l other w)) (number_cases c n);
+          kit_named = λ c l w. ⊎_elim (λ q. (naming n k, h.named, sym q)) (λ other. a.kit_named c l (d.others_back c l other w)) (cases_eq c n);
           plan_named = λ p j.
               let q = member_map (recount k i o) p b.plan.blocks j in
               let x = a.plan_named q.0 q.1 in

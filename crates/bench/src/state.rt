@@ -16,7 +16,7 @@ pub struct State {
     pub good: bool,
 }
 
-// The requests, with their codes.
+// The requests, with their codes: the cases ask by records, so that they go through the reading of requests too.
 #[derive(Clone, Copy)]
 pub(crate) enum Code {
     Add = 1,
@@ -30,15 +30,12 @@ pub(crate) enum Code {
 
 // Whether an answer has these five words.
 fn is_answer(answer: Answer5, words: [u32; 5]) -> bool {
-    [answer.a, answer.b, answer.c, answer.d, answer.e] == words
+    answer.0 == words
 }
 
 // Whether a resize was done with so many events.
 fn was_set(answer: Result<usize, Refusal>, count: usize) -> bool {
-    match answer {
-        Ok(events) => events == count,
-        Err(_) => false,
-    }
+    matches!(answer, Ok(events) if events == count)
 }
 
 impl State {

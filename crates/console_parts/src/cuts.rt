@@ -1,13 +1,12 @@
 // Cuts, and what a subport is linked with: the end that is found, and where it stands.
 ghost use Rattle.multiportgraph.specs.WellFormed.{MultiWf};
 
-use crate::orders::{Command, Order};
+use crate::orders::Order;
 use crate::replies::show_refusal;
 use lines::show::Line;
 use multi_tables::answers::{PortPlace, Refusal, SubportIndex};
 use multiportgraph::multiportgraph::{MultiPortGraph, PortUnlinked};
 use port_tables::index::PortIndex;
-use records::ask::{cut_port, cut_subport};
 
 fn show_found(rt: &impl Print, answer: Result<Option<(SubportIndex, PortPlace)>, Refusal>) {
     match answer {
@@ -26,24 +25,12 @@ fn show_found(rt: &impl Print, answer: Result<Option<(SubportIndex, PortPlace)>,
     }
 }
 
-fn unlinked(graph: MultiPortGraph, order: Order) -> PortUnlinked
-    requires { MultiWf graph }
-    ensures { MultiWf result.graph }
-{
-    if order.command == Command::Unlink {
-        return cut_port(graph, order.number(0));
-    }
-    cut_subport(graph, order.number(0), order.offset(1))
-}
-
-// A command that cuts all wires at a port, or the wire at a subport. Stays one command: what is shown and given back is the same.
-pub fn cut(rt: &impl Print, graph: MultiPortGraph, order: Order) -> MultiPortGraph
-    requires { MultiWf graph }
+// What a cut found; the graph that it left is given back.
+pub fn show_cut(rt: &impl Print, done: PortUnlinked) -> MultiPortGraph
+    requires { MultiWf done.graph }
     ensures { MultiWf result }
 {
-    let done = unlinked(graph, order);
-    let answer = done.answer;
-    show_found(rt, answer);
+    show_found(rt, done.answer);
     done.graph
 }
 

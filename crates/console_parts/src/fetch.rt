@@ -4,7 +4,7 @@ ghost use Rattle.multiportgraph.specs.WellFormed.{MultiWf};
 use crate::orders::Order;
 use crate::replies::{Reason, show_refusal, show_refusal_number};
 use crate::store::{path_of, show_failure};
-use files::load::load;
+use files::load::{LoadError, load};
 use files::merge::MergeError;
 use lines::show::write_bytes;
 use lines::text::{next_word, part};
@@ -51,12 +51,19 @@ pub(crate) fn fetch<'a>(
     }
 }
 
-// Why a file is refused, or two as one.
+// Why a file is refused.
+fn show_load_refusal(rt: &impl Print, error: LoadError) {
+    match error {
+        LoadError::BadSums => show_refusal_number(rt, Reason::BadSums),
+        LoadError::BadLayout => show_refusal_number(rt, Reason::BadLayout),
+        LoadError::Refused(refusal) => show_refusal(rt, refusal),
+    }
+}
+
+// Why two files as one are refused.
 pub(crate) fn show_file_refusal(rt: &impl Print, error: MergeError) {
     match error {
-        MergeError::BadSums => show_refusal_number(rt, Reason::BadSums),
-        MergeError::BadLayout => show_refusal_number(rt, Reason::BadLayout),
-        MergeError::Refused(refusal) => show_refusal(rt, refusal),
+        MergeError::Load(error) => show_load_refusal(rt, error),
         MergeError::BufferShort => show_refusal_number(rt, Reason::BufferShort),
     }
 }
@@ -85,7 +92,7 @@ pub fn load_from(
             loaded.graph
         }
         Err(error) => {
-            show_file_refusal(rt, MergeError::from(error));
+            show_load_refusal(rt, error);
             graph
         }
     }

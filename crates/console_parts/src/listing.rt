@@ -2,14 +2,13 @@
 ghost use Rattle.multiportgraph.specs.WellFormed.{MultiWf};
 
 use crate::orders::{Command, Order};
-use crate::replies::{show_number, show_refusal};
-use lines::show::Line;
+use crate::replies::show_refusal;
+use lines::named::sides_of;
+use lines::show::{Line, show_number};
 use multi_tables::answers::{Refusal, SubportIndex, SubportLink};
 use multiportgraph::iter::{Neighbours, NodeConnections, NodeLinks, NodeSubports, PortLinks};
 use multiportgraph::multiportgraph::MultiPortGraph;
-use port_tables::direction::Direction;
-use port_tables::index::{NodeIndex, PORT_SLOTS, PortIndex};
-use port_tables::sides::Sides;
+use port_tables::index::{NodeIndex, PORT_SLOTS, PortIndex, PortRange};
 
 // A walk that was begun.
 #[derive(Clone, Copy)]
@@ -31,48 +30,27 @@ enum Item {
     Link(SubportLink),
 }
 
-// 0 incoming, 1 outgoing, 2 both.
-fn sides_of(number: u32) -> Sides {
-    match number {
-        0 => Sides::One(Direction::Incoming),
-        1 => Sides::One(Direction::Outgoing),
-        _ => Sides::Both,
-    }
-}
-
 // The walk that a command asks for; it is refused if the block or the port that it is asked of cannot be looked up.
 fn start(graph: MultiPortGraph, order: Order) -> Result<Walk, Refusal> {
     let node = NodeIndex(order.number(0));
     let port = PortIndex(order.number(0));
     let sides = sides_of(order.number(1));
-    match order.command {
-        Command::Subports => match graph.subports(node, sides) {
-            Ok(walk) => Ok(Walk::Subports(walk)),
-            Err(refusal) => Err(refusal),
-        },
-        Command::Links => match graph.port_links(port) {
-            Ok(walk) => Ok(Walk::Links(walk)),
-            Err(refusal) => Err(refusal),
-        },
-        Command::Back => match graph.port_links(port) {
-            Ok(walk) => Ok(Walk::Back(walk)),
-            Err(refusal) => Err(refusal),
-        },
+    Ok(match order.command {
+        Command::Subports => Walk::Subports(graph.subports(node, sides)?),
+        Command::Links => Walk::Links(graph.port_links(port)?),
+        Command::Back => Walk::Back(graph.port_links(port)?),
         Command::NodeLinks => {
-            match graph.links(node, sides, order.number(2), order.number(3)) {
-                Ok(walk) => Ok(Walk::NodeLinks(walk)),
-                Err(refusal) => Err(refusal),
-            }
+            let skip = PortRange {
+                from: order.number(2),
+                to: order.number(3),
+            };
+            Walk::NodeLinks(graph.links(node, sides, skip)?)
         }
-        Command::Neighbours => match graph.neighbours(node, sides, order.number(2) == 1) {
-            Ok(walk) => Ok(Walk::Neighbours(walk)),
-            Err(refusal) => Err(refusal),
-        },
-        _ => match graph.get_connections(node, NodeIndex(order.number(1))) {
-            Ok(walk) => Ok(Walk::Connections(walk)),
-            Err(refusal) => Err(refusal),
-        },
-    }
+        Command::Neighbours => {
+            Walk::Neighbours(graph.neighbours(node, sides, order.number(2) == 1)?)
+        }
+        _ => Walk::Connections(graph.get_connections(node, NodeIndex(order.number(1)))?),
+    })
 }
 
 impl Walk {
@@ -82,39 +60,27 @@ impl Walk {
     {
         match self {
             Walk::Subports(walk) => {
-                let Some((subport, next)) = walk.step(graph) else {
-                    return None;
-                };
+                let (subport, next) = walk.step(graph)?;
                 Some((Item::Subport(subport), Walk::Subports(next)))
             }
             Walk::Links(walk) => {
-                let Some((link, next)) = walk.step(graph) else {
-                    return None;
-                };
+                let (link, next) = walk.step(graph)?;
                 Some((Item::Link(link), Walk::Links(next)))
             }
             Walk::Back(walk) => {
-                let Some((link, next)) = walk.step_back(graph) else {
-                    return None;
-                };
+                let (link, next) = walk.step_back(graph)?;
                 Some((Item::Link(link), Walk::Back(next)))
             }
             Walk::NodeLinks(walk) => {
-                let Some((link, next)) = walk.step(graph) else {
-                    return None;
-                };
+                let (link, next) = walk.step(graph)?;
                 Some((Item::Link(link), Walk::NodeLinks(next)))
             }
             Walk::Neighbours(walk) => {
-                let Some((node, next)) = walk.step(graph) else {
-                    return None;
-                };
+                let (node, next) = walk.step(graph)?;
                 Some((Item::Block(node), Walk::Neighbours(next)))
             }
             Walk::Connections(walk) => {
-                let Some((link, next)) = walk.step(graph) else {
-                    return None;
-                };
+                let (link, next) = walk.step(graph)?;
                 Some((Item::Link(link), Walk::Connections(next)))
             }
         }

@@ -4,10 +4,9 @@ use lines::orders::order_by;
 use lines::rows::row_of;
 use lines::text::next_word;
 
-// The requests have their codes.
 #[derive(Clone, Copy, PartialEq, Eq)]
 pub enum Command {
-    Add = 1,
+    Add,
     Remove,
     Resize,
     Link,

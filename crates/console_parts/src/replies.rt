@@ -1,7 +1,9 @@
 // Answers as lines: `ok` or `refused` with numbers, and `bad line`. A line that says no ends in its reason, for people.
-use lines::show::Line;
+use lines::show::{Line, show_number};
 use multi_tables::answers::Refusal;
 use records::answers::{Answer5, refusal_words};
+use std::fmt;
+use std::fmt::Write;
 
 // Why a sheet, a file or a question for times is refused, by the number of the refusal, where no call is: these carry nothing.
 #[derive(Clone, Copy)]
@@ -14,23 +16,24 @@ pub enum Reason {
     Cycle = 20,
 }
 
-impl Reason {
-    fn text(self) -> &'static [u8] {
-        match self {
-            Reason::TooManyEntries => b"a sheet has at most 64 entries",
-            Reason::BufferShort => b"the buffer is too short for the file",
-            Reason::BadSums => b"the file is damaged: a sum or the length is wrong",
-            Reason::BadLayout => b"the file is not laid out as a wiring's is",
-            Reason::BadTimes => b"a list of times has one for each node slot",
-            Reason::Cycle => b"a cycle can reach this block",
-        }
+// In plain words.
+impl fmt::Display for Reason {
+    fn fmt<W: Write>(&self, f: &mut fmt::Formatter<W>) -> fmt::Result {
+        f.write_str(match self {
+            Reason::TooManyEntries => "a sheet has at most 64 entries",
+            Reason::BufferShort => "the buffer is too short for the file",
+            Reason::BadSums => "the file is damaged: a sum or the length is wrong",
+            Reason::BadLayout => "the file is not laid out as a wiring's is",
+            Reason::BadTimes => "a list of times has one for each node slot",
+            Reason::Cycle => "a cycle can reach this block",
+        })
     }
 }
 
 // Why a call is refused, in plain words, by the number of the refusal; 12 carries the side that both ends are on.
-// Stays by number: an answer is five words, as in a record, whatever call it is of.
+// Stays by number: what a request answers is five words, and the console asks by requests; a table by `Refusal` would stand beside this one.
 fn reason_of(answer: Answer5) -> &'static [u8] {
-    match answer.a {
+    match answer.0[0] {
         1 => b"a list of a wrong length",
         2 => b"an offset is at most 65534",
         3 => b"too many ports for one block",
@@ -42,7 +45,7 @@ fn reason_of(answer: Answer5) -> &'static [u8] {
         9 => b"the port has no such offset",
         10 => b"no room is left",
         11 => b"there is no such second port",
-        12 if answer.d == 1 => b"both ends are outputs",
+        12 if answer.0[3] == 1 => b"both ends are outputs",
         12 => b"both ends are inputs",
         13 => b"this end has its wire",
         18 => b"an input has its wire, and takes one only",
@@ -62,7 +65,7 @@ fn carried(refusal: u32) -> usize {
 
 // The first values of an answer.
 fn with_values(mut line: Line, answer: Answer5, count: usize) -> Line {
-    for value in [answer.b, answer.c, answer.d, answer.e].iter().take(count) {
+    for value in answer.0[1..].iter().take(count) {
         line = line.number(*value);
     }
     line
@@ -71,9 +74,9 @@ fn with_values(mut line: Line, answer: Answer5, count: usize) -> Line {
 // A refusal with what it carries, on a line that begins with what is given.
 fn show_refused(rt: &impl Print, line: Line, answer: Answer5) {
     with_values(
-        line.with(b"refused").number(answer.a),
+        line.with(b"refused").number(answer.0[0]),
         answer,
-        carried(answer.a),
+        carried(answer.0[0]),
     )
     .with(b"  # ")
     .with(reason_of(answer))
@@ -82,7 +85,7 @@ fn show_refused(rt: &impl Print, line: Line, answer: Answer5) {
 
 // An answer with so many values, or the refusal, on a line that begins with what is given.
 fn show_on(rt: &impl Print, line: Line, answer: Answer5, values: usize) {
-    if answer.a == 0 {
+    if answer.0[0] == 0 {
         with_values(line.with(b"ok"), answer, values).write(rt);
     } else {
         show_refused(rt, line, answer);
@@ -100,20 +103,13 @@ pub fn show_item(rt: &impl Print, answer: Answer5, values: usize) {
 
 // A refusal where no call is refused.
 pub fn show_refusal_number(rt: &impl Print, reason: Reason) {
-    Line::of(b"refused")
-        .number(reason as u32)
-        .with(b"  # ")
-        .with(reason.text())
-        .write(rt);
+    let mut refused = Line::of(b"refused").number(reason as u32);
+    let _ = write!(refused, "  # {reason}");
+    refused.write(rt);
 }
 
 pub fn show_refusal(rt: &impl Print, refusal: Refusal) {
     show_refused(rt, Line::of(b""), refusal_words(refusal));
-}
-
-// `ok` with one number.
-pub fn show_number(rt: &impl Print, value: u64) {
-    Line::of(b"ok").number(value).write(rt);
 }
 
 pub fn show_count(rt: &impl Print, answer: Result<usize, Refusal>) {

@@ -2,14 +2,11 @@
 ghost use Rattle.multiportgraph.specs.WellFormed.{MultiWf};
 
 use crate::orders::Order;
-use crate::replies::{show_number, show_refusal};
-use lines::show::Line;
+use crate::replies::show_refusal;
+use lines::show::{Line, show_number};
 use multiportgraph::multiportgraph::MultiPortGraph;
-use port_tables::index::NODE_PORTS;
+use port_tables::index::MOVES;
 use records::ask::resize;
-
-// Three numbers for each port that a node can have.
-const MOVES: usize = 3 * NODE_PORTS;
 
 // An event: the port, the kind, and the new port or the old link.
 fn show_move(rt: &impl Print, event: &[u32]) {

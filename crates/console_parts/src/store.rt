@@ -3,9 +3,9 @@
 ghost use Rattle.multiportgraph.specs.WellFormed.{MultiWf};
 
 use crate::orders::Order;
-use crate::replies::{Reason, show_number, show_refusal_number};
+use crate::replies::{Reason, show_refusal_number};
 use files::save::{BufferShort, LONGEST_FILE, save};
-use lines::show::write_bytes;
+use lines::show::{show_number, write_bytes};
 use lines::text::{Span, next_word, part};
 use multiportgraph::multiportgraph::MultiPortGraph;
 use std::fs::{Files, OpenFile, OpenOptions, Permissions};
@@ -32,19 +32,20 @@ fn show_system(rt: &impl Print, error: io::Error) {
         write_bytes(rt, b"the disk does not answer as it should");
         return;
     }
-    match error.kind() {
-        ErrorKind::PermissionDenied => write_bytes(rt, b"this is not allowed"),
-        ErrorKind::NotFound => write_bytes(rt, b"there is no such file or folder"),
-        ErrorKind::WriteZero => write_bytes(rt, b"the disk does not answer as it should"),
-        ErrorKind::NotADirectory => write_bytes(rt, b"a part of the name is no folder"),
-        ErrorKind::IsADirectory => write_bytes(rt, b"this is a folder"),
-        ErrorKind::InvalidInput => write_bytes(rt, b"this is no name of a file"),
-        ErrorKind::FileTooLarge => write_bytes(rt, b"a file has at most 65536 bytes"),
-        ErrorKind::StorageFull => write_bytes(rt, b"the disk is full"),
-        ErrorKind::ReadOnlyFilesystem => write_bytes(rt, b"the disk can only be read"),
-        ErrorKind::InvalidFilename => write_bytes(rt, b"the name is too long"),
-        _ => write_bytes(rt, b"the system refused it"),
-    }
+    let reason: &[u8] = match error.kind() {
+        ErrorKind::PermissionDenied => b"this is not allowed",
+        ErrorKind::NotFound => b"there is no such file or folder",
+        ErrorKind::WriteZero => b"the disk does not answer as it should",
+        ErrorKind::NotADirectory => b"a part of the name is no folder",
+        ErrorKind::IsADirectory => b"this is a folder",
+        ErrorKind::InvalidInput => b"this is no name of a file",
+        ErrorKind::FileTooLarge => b"a file has at most 65536 bytes",
+        ErrorKind::StorageFull => b"the disk is full",
+        ErrorKind::ReadOnlyFilesystem => b"the disk can only be read",
+        ErrorKind::InvalidFilename => b"the name is too long",
+        _ => b"the system refused it",
+    };
+    write_bytes(rt, reason);
 }
 
 // What cannot be done to a file, with the reason.
@@ -63,10 +64,9 @@ pub(crate) fn path_of(name: &[u8]) -> io::Result<&str> {
 
 // A path's folder, with the slash after it; empty for none.
 fn folder_of(path: &[u8]) -> &[u8] {
-    match path.iter().rposition(|byte| *byte == b'/') {
-        Some(at) => &path[..=at],
-        None => &[],
-    }
+    path.iter()
+        .rposition(|byte| *byte == b'/')
+        .map_or(&[], |at| &path[..=at])
 }
 
 // Writes a file that was made, and has it on the disk.
@@ -77,15 +77,8 @@ fn fill_file<F: Write + OpenFile>(file: &mut F, bytes: &[u8]) -> io::Result<()> 
 
 // Has the new name of a file on the disk too, where the folder can be synced.
 fn sync_folder(rt: &impl Files, folder: &[u8]) {
-    let path = if folder.is_empty() {
-        Ok(".")
-    } else {
-        path_of(folder)
-    };
-    let Ok(path) = path else {
-        return;
-    };
-    if let Ok(file) = fs::open(rt, path) {
+    let here: &[u8] = if folder.is_empty() { b"." } else { folder };
+    if let Ok(file) = path_of(here).and_then(|path| fs::open(rt, path)) {
         let _ = file.sync_all();
     }
 }
@@ -111,12 +104,8 @@ fn make_file<R: Files>(rt: &R, path: &mut [u8]) -> io::Result<R::File> {
     for number in 0..MADE_NAMES {
         put_digits(path, number);
         match open_new(rt, path) {
-            Ok(file) => return Ok(file),
-            Err(error) => {
-                if error.kind() != ErrorKind::AlreadyExists {
-                    return Err(error);
-                }
-            }
+            Err(error) if error.kind() == ErrorKind::AlreadyExists => {}
+            made => return made,
         }
     }
     Err(io::Error::from(ErrorKind::AlreadyExists))
@@ -134,10 +123,7 @@ fn remove(rt: &impl Files, made: &[u8]) -> io::Result<()> {
 
 // Gives a file that was made its name; one that could not be written goes.
 fn settle(rt: &impl Files, filled: io::Result<()>, made: &[u8], name: &[u8]) -> io::Result<()> {
-    let settled = match filled {
-        Ok(()) => name_file(rt, made, name),
-        Err(error) => Err(error),
-    };
+    let settled = filled.and_then(|()| name_file(rt, made, name));
     if settled.is_err() {
         let _ = remove(rt, made);
     }

@@ -1,9 +1,8 @@
 // All blocks, and all wires, listed at once: the graph is passed once, however many there are.
+ghost use Rattle.std.specs.Prelude.{◌<◌};
 ghost use Rattle.multiportgraph.specs.WellFormed.{MultiWf};
 
-use crate::orders::Command;
-use crate::replies::show_number;
-use lines::show::{Line, write_bytes};
+use lines::show::{Line, show_number, write_bytes};
 use multiportgraph::list_ends::TooShort;
 use multiportgraph::multiportgraph::MultiPortGraph;
 use port_tables::index::PORT_SLOTS;
@@ -12,90 +11,86 @@ use port_tables::index::PORT_SLOTS;
 const ROOM: usize = 4 * PORT_SLOTS;
 
 // A block by its number.
-fn show_block(rt: &impl Print, numbers: &[u32]) {
-    if let [block, ..] = numbers {
-        Line::of(b" ").number(*block).write(rt);
+fn with_block(line: Line, numbers: &[u32]) -> Line {
+    match numbers {
+        [block, ..] => line.number(*block),
+        _ => line,
     }
 }
 
 // A wire by its ports, each with its offset, and node, side and position of the second, which is an input.
-fn show_wire(rt: &impl Print, numbers: &[u32]) {
-    if let [from, from_offset, _, _, to, to_offset, node, position] = numbers {
-        Line::of(b" ")
+pub fn with_wire(line: Line, numbers: &[u32]) -> Line {
+    match numbers {
+        [from, from_offset, _, _, to, to_offset, node, position] => line
             .number(*from)
             .number(*from_offset)
             .number(*to)
             .number(*to_offset)
             .number(*node)
             .number(0u32)
-            .number(*position)
-            .write(rt);
+            .number(*position),
+        _ => line,
     }
 }
 
 // A wire by the places of its ports: node, position and offset.
-fn show_places(rt: &impl Print, numbers: &[u32]) {
-    if let [
-        _,
-        from_offset,
-        from_node,
-        from_position,
-        _,
-        offset,
-        node,
-        position,
-    ] = numbers
-    {
-        Line::of(b" ")
+pub fn with_places(line: Line, numbers: &[u32]) -> Line {
+    match numbers {
+        [
+            _,
+            from_offset,
+            from_node,
+            from_position,
+            _,
+            offset,
+            node,
+            position,
+        ] => line
             .number(*from_node)
             .number(*from_position)
             .number(*from_offset)
             .number(*node)
             .number(*position)
-            .number(*offset)
-            .write(rt);
+            .number(*offset),
+        _ => line,
     }
 }
 
-fn listed(
-    graph: MultiPortGraph,
-    command: Command,
-    numbers: &mut [u32; ROOM],
-) -> Result<usize, TooShort>
-    requires { MultiWf graph }
+// The items of a listing, so many numbers each, and how many there are.
+fn show_listed<F: Fn(Line, &[u32]) -> Line>(
+    rt: &impl Print,
+    listed: Result<usize, TooShort>,
+    numbers: &[u32],
+    size: usize,
+    with: F,
+)
+    requires { (0 < size) × F.IsAlwaysCallable with }
 {
-    if command == Command::Blocks {
-        return graph.list_blocks(numbers);
-    }
-    graph.list_wires(numbers)
-}
-
-// A command that lists all blocks or all wires. Stays three loops: with the step as a parameter each turn would carry the runtime along.
-pub fn list_whole(rt: &impl Print, graph: MultiPortGraph, command: Command)
-    requires { MultiWf graph }
-{
-    let mut numbers = [0u32; ROOM];
-    match listed(graph, command, &mut numbers) {
+    match listed {
         Ok(count) => {
-            match command {
-                Command::Blocks => {
-                    for block in numbers.chunks_exact(4).take(count) {
-                        show_block(rt, block);
-                    }
-                }
-                Command::Places => {
-                    for wire in numbers.chunks_exact(8).take(count) {
-                        show_places(rt, wire);
-                    }
-                }
-                _ => {
-                    for wire in numbers.chunks_exact(8).take(count) {
-                        show_wire(rt, wire);
-                    }
-                }
+            for item in numbers.chunks_exact(size).take(count) {
+                with(Line::of(b" "), item).write(rt);
             }
             show_number(rt, count as u64);
         }
         Err(TooShort(_)) => write_bytes(rt, b"the listing is too long\n"),
     }
+}
+
+// All blocks.
+pub fn list_blocks(rt: &impl Print, graph: MultiPortGraph)
+    requires { MultiWf graph }
+{
+    let mut numbers = [0u32; ROOM];
+    let listed = graph.list_blocks(&mut numbers);
+    show_listed(rt, listed, &numbers, 4, with_block);
+}
+
+// All wires, each with what is to be shown of it.
+pub fn list_wires<F: Fn(Line, &[u32]) -> Line>(rt: &impl Print, graph: MultiPortGraph, with: F)
+    requires { MultiWf graph × F.IsAlwaysCallable with }
+{
+    let mut numbers = [0u32; ROOM];
+    let listed = graph.list_wires(&mut numbers);
+    show_listed(rt, listed, &numbers, 8, with);
 }

@@ -13,7 +13,6 @@ use Rattle.files.specs.BuildList.{if_loaded}
 use Rattle.files.specs.Merging.{merge_answer, merge_numbers}
 use Rattle.files.specs.Saving.{save_answer, save_buffer}
 use Rattle.files.specs.declared.merge.MergeError.{MergeError}
-use Rattle.files.specs.declared.merge.MergeError.TheVariants as merge
 use Rattle.files.specs.declared.save.BufferShort.{BufferShort}
 
 -- a refusal is told above every length
@@ -67,10 +66,7 @@ records_written file requests = if_loaded (load_answer One file) (list_after (fi
 
 abbrev pub merge_told : Result ℕ MergeError → ℕ
 merge_told (Ok n) = n
-merge_told (Err merge.BadSums) = refused_with (get_or (merge_numbers (Err merge.BadSums)) 0 0)
-merge_told (Err merge.BadLayout) = refused_with (get_or (merge_numbers (Err merge.BadLayout)) 0 0)
-merge_told (Err (merge.Refused r)) = refused_with (get_or (merge_numbers (Err (merge.Refused r))) 0 0)
-merge_told (Err merge.BufferShort) = refused_with (get_or (merge_numbers (Err merge.BufferShort)) 0 0)
+merge_told (Err e) = refused_with (get_or (merge_numbers (Err e)) 0 0)
 
 unfoldable pub merge_return : List ℕ → List ℕ → List ℕ → ℕ
 merge_return first second file = merge_told (merge_answer first second file)

@@ -1,25 +1,22 @@
 -- What the proofs of the entry from files to requests cite.
 use Rattle.std.specs.Prelude.{◌≡◌, ℕ, zero, suc, ◌+◌, ◌-◌, ◌*◌, ◌/◌, ◌≤◌, ◌<◌, take, replicate, Result, Ok, Err, is_ok}
-use Rattle.std.proofs.Math.Path.{refl, ap, subst}
-use Rattle.std.proofs.Common.{sym, ◌∙◌, length-drop, take_at, drop_at}
+use Rattle.std.proofs.Math.Path.{refl, ap}
+use Rattle.std.proofs.Common.{sym, ◌∙◌, take_at, drop_at}
 use mathlib.Core.List.{List, [], ◌∷◌, ◌++◌, flat_map, append_assoc}
 use native.Mathlib.Omega.{arith}
 use Rattle.std.proofs.Math.ListN.{length, get_or, drop, length-append, length-replicate}
-use Rattle.std.proofs.Math.Seq.{sets, length-sets, drop-drop}
-use Rattle.std.proofs.lemmas.List.{get_or-drop}
+use Rattle.std.proofs.Math.Seq.{sets, length-sets}
 use Rattle.std.proofs.lemmas.List.Edits.{sets-eq}
 use borrow.Author.Tests.{le-leb, lt-leb}
 use Rattle.port_tables.specs.Limits.{node_slots, port_slots}
 use Rattle.port_tables.specs.ResizeLinkSteps.{sets_append}
 use Rattle.multi_tables.specs.EndAnswers.{refusal_numbers}
 use Rattle.multiportgraph.specs.Listed.{list_after}
-use Rattle.multiportgraph.specs.ListScans.{Writing}
 use Rattle.multi_tables.specs.declared.answers.Refusal.{Refusal}
 use Rattle.port_tables.specs.declared.release.Release.TheVariants.{One}
 use Rattle.records.specs.Words.{bytes_of}
 use Rattle.records.specs.WordLaws.{bytes_append, bytes_long}
 use Rattle.records.specs.Run.{five}
-use Rattle.records.specs.Forms.{words5}
 use Rattle.records.specs.declared.answers.Answer5.{Answer5}
 use Rattle.files.specs.View.{BlockPorts, View}
 use Rattle.files.specs.Layout.{unbytes}
@@ -29,12 +26,12 @@ use Rattle.multiportgraph.specs.HiddenStays.{true_not_false}
 use Rattle.files.specs.BuildList.{add_pair, link_pair, build_numbers, list_build, build_after}
 use Rattle.files.specs.ListingSteps.{pairs_long, loaded_few}
 use Rattle.files.specs.declared.load.LoadError.{LoadError}
-use Rattle.files.specs.declared.listing.BuildListed.{BuildListed}
+use Rattle.files.specs.declared.check.Shape.{Shape}
 use Rattle.exports.specs.Exports.{refused_with, add_words, link_words, build_requests, file_requests, records_return, records_written}
 
 -- Numbers of answers.
 
-pub refusal_number : (r : Refusal) (w : Answer5) → words5 w ≡ five (refusal_numbers r) → w.a ≡ get_or (refusal_numbers r) 0 0
+pub refusal_number : (r : Refusal) (w : Answer5) → w.0 ≡ five (refusal_numbers r) → get_or w.0 0 0 ≡ get_or (refusal_numbers r) 0 0
 refusal_number r w e = ap (λ (l : List ℕ). get_or l 0 0) e
 
 -- Requests of pairs.
@@ -76,11 +73,12 @@ requests_many code f h l = pairs_counted code (length l) (flat_map f l) (pairs_l
 
 -- Laid one after the other.
 
-pair_on : (code : ℕ) (l : List ℕ) → 1 < length l → pair_requests code l ≡ pair_request code (get_or l 0 0) (get_or l 1 0) ++ pair_requests code (drop 2 l)
+pair_on : (code : ℕ) (rest pair next : List ℕ) → rest ≡ pair ++ next → length pair ≡ 2 → pair_requests code rest ≡ pair_request code (get_or pair 0 0) (get_or pair 1 0) ++ pair_requests code next
 unfolding pair_requests
-pair_on code [] h = absurd (omega arith)
-pair_on code (a ∷ []) h = absurd (omega arith)
-pair_on code (a ∷ b ∷ l) h = refl
+pair_on code rest [] next e h = absurd (omega arith)
+pair_on code rest (a ∷ []) next e h = absurd (omega arith)
+pair_on code rest (a ∷ b ∷ []) next e h = ap (pair_requests code) e
+pair_on code rest (a ∷ b ∷ x ∷ l) next e h = absurd (omega arith)
 
 pair_none : (code : ℕ) (l : List ℕ) → length l ≤ 1 → pair_requests code l ≡ []
 unfolding pair_requests
@@ -88,65 +86,57 @@ pair_none code [] h = refl
 pair_none code (a ∷ []) h = refl
 pair_none code (a ∷ b ∷ l) h = absurd (omega arith)
 
-pub requests_begin : (l : List ℕ) (at code : ℕ) (numbers : List ℕ) → Writing l at (pair_requests code numbers) l (at + 20 * 0) (pair_requests code (drop (2 * 0) numbers))
-requests_begin l at code numbers = let e : at + 20 * 0 ≡ at = omega arith in record { counted = omega arith; same = ap (λ (p : ℕ). sets l p (pair_requests code numbers)) e; long = refl }
+-- the requests of the numbers that are left amount to all
+pub record Requesting (code : ℕ) (numbers rest requests₀ requests : List ℕ) (at place : ℕ) : Type 0 where
+  pub counted : place + length (pair_requests code rest) ≡ at + length (pair_requests code numbers)
+  pub same : sets requests place (pair_requests code rest) ≡ sets requests₀ at (pair_requests code numbers)
+  pub long : length requests ≡ length requests₀
 
-module _ (code : ℕ) (rest : List ℕ) {l₀ l : List ℕ} {at p : ℕ} {whole : List ℕ} (w : Writing l₀ at whole l p (pair_requests code rest)) where
-  pub requests_end : length rest ≤ 1 → (p ≡ at + length whole) × (l ≡ sets l₀ at whole)
-  requests_end h =
-      let e = pair_none code rest h in
-      let a = w.counted in
-      let b = ap length e in
-      (omega arith, ap (sets l p) (sym e) ∙ w.same)
+pub requests_begin : (code : ℕ) (numbers : List ℕ) {rest : List ℕ} (requests : List ℕ) (at : ℕ) {n : ℕ} → rest ≡ numbers → n ≡ 0 → Requesting code numbers rest requests requests at (at + 20 * n)
+requests_begin code numbers requests at e z =
+    let p : at + 20 * 0 ≡ at = omega arith in
+    rw (e, z) (record { counted = omega arith; same = ap (λ (k : ℕ). sets requests k (pair_requests code numbers)) p; long = refl })
 
-  module _ (h : 1 < length rest) where
-    counted_on : length (pair_requests code rest) ≡ 20 + length (pair_requests code (drop 2 rest))
+module _ {code : ℕ} {numbers rest requests₀ requests : List ℕ} {at place : ℕ} (w : Requesting code numbers rest requests₀ requests at place) where
+  pub requests_end : length rest < 2 → requests ≡ sets requests₀ at (pair_requests code numbers)
+  requests_end h = ap (sets requests place) (sym (pair_none code rest (omega arith))) ∙ w.same
+
+  module _ (pair next : List ℕ) (e : rest ≡ pair ++ next) (n : length pair ≡ 2) where
+    counted_on : length (pair_requests code rest) ≡ 20 + length (pair_requests code next)
     counted_on =
-        let b = bytes_long (code ∷ get_or rest 0 0 ∷ get_or rest 1 0 ∷ 0 ∷ 0 ∷ []) in
-        let c = ap length (pair_on code rest h) ∙ length-append (pair_request code (get_or rest 0 0) (get_or rest 1 0)) (pair_requests code (drop 2 rest)) in
+        let b = bytes_long (code ∷ get_or pair 0 0 ∷ get_or pair 1 0 ∷ 0 ∷ 0 ∷ []) in
+        let c = ap length (pair_on code rest pair next e n) ∙ length-append (pair_request code (get_or pair 0 0) (get_or pair 1 0)) (pair_requests code next) in
         omega arith
 
-    pub request_fits : at + length whole ≤ length l₀ → p + 20 ≤ length l
+    pub request_fits : at + length (pair_requests code numbers) ≤ length requests₀ → place + 20 ≤ length requests
     request_fits k = let a = w.counted in let b = counted_on in let c = w.long in omega arith
 
-    pub request_turn : {l' : List ℕ} → l' ≡ sets l p (pair_request code (get_or rest 0 0) (get_or rest 1 0)) → Writing l₀ at whole l' (p + 20) (pair_requests code (drop 2 rest))
-    request_turn {l'} e =
-        let u = pair_request code (get_or rest 0 0) (get_or rest 1 0) in
+    pub request_turn : {requests' : List ℕ} {here there : ℕ} → here ≡ place → there ≡ place + 20 → requests' ≡ sets requests here (pair_request code (get_or pair 0 0) (get_or pair 1 0))
+        → Requesting code numbers next requests₀ requests' at there
+    request_turn {requests'} {here} {there} h t laid_here =
+        let g : requests' ≡ sets requests place (pair_request code (get_or pair 0 0) (get_or pair 1 0)) = rw h at laid_here in
+        let u = pair_request code (get_or pair 0 0) (get_or pair 1 0) in
         let a = w.counted in
         let b = counted_on in
-        let n : length u ≡ 20 = bytes_long (code ∷ get_or rest 0 0 ∷ get_or rest 1 0 ∷ 0 ∷ 0 ∷ []) in
+        let s : place + length u ≡ there = let l : length u ≡ 20 = bytes_long (code ∷ get_or pair 0 0 ∷ get_or pair 1 0 ∷ 0 ∷ 0 ∷ []) in omega arith in
         record {
           counted = omega arith;
           same =
-              (λ j. sets (e j) (p + sym n j) (pair_requests code (drop 2 rest)))
-              ∙ (sets_append l p u (pair_requests code (drop 2 rest)) ∙ (ap (sets l p) (sym (pair_on code rest h)) ∙ w.same));
-          long = ap length e ∙ (length-sets l p u ∙ w.long);
+              (λ j. sets (g j) (sym s j) (pair_requests code next))
+              ∙ (sets_append requests place u (pair_requests code next) ∙ (ap (sets requests place) (sym (pair_on code rest pair next e n)) ∙ w.same));
+          long = ap length g ∙ (length-sets requests place u ∙ w.long);
         }
 
--- the requests of the numbers from a place on
-module _ (code : ℕ) (numbers : List ℕ) (k : ℕ) {l₀ l : List ℕ} {at : ℕ} {whole : List ℕ} (w : Writing l₀ at whole l (at + 20 * k) (pair_requests code (drop (2 * k) numbers))) where
-  pub requests_laid : length numbers / 2 ≤ k → (at + 20 * k ≡ at + length whole) × (l ≡ sets l₀ at whole)
-  requests_laid h = let n = length-drop (2 * k) numbers in requests_end code (drop (2 * k) numbers) w (omega arith)
-
-  module _ (h : k < length numbers / 2) where
-    two_left : 1 < length (drop (2 * k) numbers)
-    two_left = let n = length-drop (2 * k) numbers in omega arith
-
-    pub request_room : at + length whole ≤ length l₀ → at + 20 * k + 20 ≤ length l₀
-    request_room r = let f = request_fits code (drop (2 * k) numbers) w two_left r in let g = w.long in omega arith
-
-    pub request_next : {l' : List ℕ} → l' ≡ sets l (at + 20 * k) (pair_request code (get_or numbers (2 * k) 0) (get_or numbers (2 * k + 1) 0)) →
-        Writing l₀ at whole l' (at + 20 * (k + 1)) (pair_requests code (drop (2 * (k + 1)) numbers))
-    request_next {l'} e =
-        let a : get_or numbers (2 * k) 0 ≡ get_or (drop (2 * k) numbers) 0 0 = ap (λ (i : ℕ). get_or numbers i 0) (omega arith) ∙ sym (get_or-drop (2 * k) numbers 0 0) in
-        let b : get_or numbers (2 * k + 1) 0 ≡ get_or (drop (2 * k) numbers) 1 0 = sym (get_or-drop (2 * k) numbers 1 0) in
-        let s : drop 2 (drop (2 * k) numbers) ≡ drop (2 * (k + 1)) numbers = drop-drop 2 (2 * k) numbers ∙ ap (λ (m : ℕ). drop m numbers) (omega arith) in
-        let p : at + 20 * k + 20 ≡ at + 20 * (k + 1) = omega arith in
-        subst (λ (r : List ℕ). Writing l₀ at whole l' (at + 20 * (k + 1)) (pair_requests code r)) s
-        (subst (λ (q : ℕ). Writing l₀ at whole l' q (pair_requests code (drop 2 (drop (2 * k) numbers)))) p
-        (request_turn code (drop (2 * k) numbers) w two_left (e ∙ (λ j. sets l (at + 20 * k) (pair_request code (a j) (b j))))))
-
--- The entry.
+-- so many they are
+pub requests_counted : (code : ℕ) (numbers : List ℕ) → length (pair_requests code numbers) ≡ 20 * (length numbers / 2)
+unfolding pair_requests
+requests_counted code [] = refl
+requests_counted code (a ∷ []) = refl
+requests_counted code (a ∷ b ∷ l) =
+    let c = requests_counted code l in
+    let d = length-append (pair_request code a b) (pair_requests code l) in
+    let e = bytes_long (code ∷ a ∷ b ∷ 0 ∷ 0 ∷ []) in
+    omega arith
 
 -- the numbers of a build fit so many
 abbrev pub build_most : ℕ
@@ -156,12 +146,12 @@ abbrev pub no_numbers : List ℕ
 no_numbers = replicate build_most 0
 
 -- what a listing says of the load
-refused_as : {r : LoadError} (s : BuildListed) (a : Result (Unit {0}) LoadError) → Err r ≡ result_and a (Ok s) → a ≡ Err r
+refused_as : {r : LoadError} (s : Shape) (a : Result (Unit {0}) LoadError) → Err r ≡ result_and a (Ok s) → a ≡ Err r
 refused_as s (Ok _) e = absurd (true_not_false refl (ap is_ok (sym e)))
-refused_as s (Err x) e = ap (λ (v : Result BuildListed LoadError). result_and v (Ok tt)) (sym e)
+refused_as s (Err x) e = ap (λ (v : Result Shape LoadError). result_and v (Ok tt)) (sym e)
 
-listed_as : {l s : BuildListed} (a : Result (Unit {0}) LoadError) → Ok l ≡ result_and a (Ok s) → (a ≡ Ok tt) × (l ≡ s)
-listed_as {l} (Ok _) e = (refl, ap (λ (v : Result BuildListed LoadError). result_unwrap_or v l) e)
+listed_as : {l s : Shape} (a : Result (Unit {0}) LoadError) → Ok l ≡ result_and a (Ok s) → (a ≡ Ok tt) × (l ≡ s)
+listed_as {l} (Ok _) e = (refl, ap (λ (v : Result Shape LoadError). result_unwrap_or v l) e)
 listed_as (Err x) e = absurd (true_not_false refl (ap is_ok e))
 
 pub records_refused : (file requests : List ℕ) {r : LoadError} → Err r ≡ list_build One file → {told : ℕ} → told ≡ refused_with (get_or (load_numbers (Err r)) 0 0) →
@@ -169,7 +159,7 @@ pub records_refused : (file requests : List ℕ) {r : LoadError} → Err r ≡ l
 unfolding records_return records_written list_build
 records_refused file requests isListed f = let e = refused_as _ (load_answer One file) isListed in rw e (f, refl)
 
-module _ (file requests : List ℕ) (listed : BuildListed) (isListed : Ok listed ≡ list_build One file) where
+module _ (file requests : List ℕ) (listed : Shape) (isListed : Ok listed ≡ list_build One file) where
   loaded : load_answer One file ≡ Ok tt
   unfolding list_build
   loaded = (listed_as (load_answer One file) isListed).0
@@ -179,10 +169,10 @@ module _ (file requests : List ℕ) (listed : BuildListed) (isListed : Ok listed
   said = (listed_as (load_answer One file) isListed).1
 
   blocks_many : listed.blocks ≡ length (unbytes file).blocks
-  blocks_many = ap (λ (r : BuildListed). r.blocks) said
+  blocks_many = ap (λ (r : Shape). r.blocks) said
 
   wires_many : listed.wires ≡ length (unbytes file).wires
-  wires_many = ap (λ (r : BuildListed). r.wires) said
+  wires_many = ap (λ (r : Shape). r.wires) said
 
   pub records_few : (listed.blocks ≤ node_slots) × (2 * listed.wires ≤ port_slots)
   records_few =

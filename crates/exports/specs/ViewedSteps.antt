@@ -1,10 +1,10 @@
 -- What the proofs of the entry that writes views cite.
-use Rattle.std.specs.Prelude.{◌≡◌, ℕ, suc, ◌+◌, ◌*◌, ◌%◌, ◌≤◌, ◌<◌, get_or, take, replicate}
+use Rattle.std.specs.Prelude.{◌≡◌, ℕ, ◌+◌, ◌*◌, ◌%◌, ◌≤◌, ◌<◌, take, replicate}
 use Rattle.std.proofs.Math.Path.{refl, ap}
-use Rattle.std.proofs.Common.{sym, ◌∙◌, take-append-drop, drop-cons}
+use Rattle.std.proofs.Common.{sym, ◌∙◌, take-append-drop}
 use mathlib.Core.List.{List, [], ◌∷◌, ◌++◌}
 use native.Mathlib.Omega.{arith}
-use Rattle.std.proofs.Math.ListN.{length, drop, length-append, length-drop}
+use Rattle.std.proofs.Math.ListN.{length, drop, length-append}
 use Rattle.std.proofs.lemmas.List.{length-replicate}
 use Rattle.std.proofs.Math.Seq.{sets, length-sets}
 use Rattle.std.proofs.lemmas.List.Edits.{sets-eq}
@@ -17,7 +17,6 @@ use Rattle.multiportgraph.specs.CountLaws.{visible_nodes_lem, visible_links_lem}
 use Rattle.multiportgraph.specs.WellFormed.{Fine}
 use Rattle.multiportgraph.specs.Listed.{blocks_listed, wires_listed, list_after}
 use Rattle.multiportgraph.specs.ListReads.{blocks_length, wires_length}
-use Rattle.multiportgraph.specs.ListScans.{Writing}
 use Rattle.multiportgraph.specs.Wires.{blocks, all_wires}
 use Rattle.multiportgraph.specs.declared.multiportgraph.MultiPortGraph.{MultiPortGraph}
 use Rattle.records.specs.Words.{bytes_of}
@@ -26,61 +25,13 @@ use Rattle.files.specs.SaveSteps.{listing_taken, listed_blocks, listed_wires, co
 use Rattle.exports.specs.Exports.{refused_with, graph_left, list_whole}
 use Rattle.exports.specs.Viewed.{view_words, view_bytes, view_told, view_return, view_written}
 
--- Words laid one after the other.
-
-pub words_begin : (l : List ℕ) (at : ℕ) (words : List ℕ) → Writing l at (bytes_of words) l (at + 4 * 0) (bytes_of (drop 0 words))
-words_begin l at words = let e : at + 4 * 0 ≡ at = omega arith in record { counted = omega arith; same = ap (λ (p : ℕ). sets l p (bytes_of words)) e; long = refl }
-
-module _ (words : List ℕ) (i : ℕ) {l₀ l : List ℕ} {at p : ℕ} (w : Writing l₀ at (bytes_of words) l p (bytes_of (drop i words))) where
-  none_left : length words ≤ i → bytes_of (drop i words) ≡ []
-  unfolding bytes_of
-  none_left h = go (drop i words) (let d = length-drop i words in omega arith)
-    where
-      go : (k : List ℕ) → length k ≡ 0 → bytes_of k ≡ []
-      go [] e = refl
-      go (x ∷ k) e = absurd (omega arith)
-
-  pub words_end : length words ≤ i → l ≡ sets l₀ at (bytes_of words)
-  words_end h = ap (sets l p) (sym (none_left h)) ∙ w.same
-
-  module _ (h : i < length words) where
-    word_on : bytes_of (drop i words) ≡ bytes_of (get_or words i 0 ∷ []) ++ bytes_of (drop (i + 1) words)
-    word_on =
-        let e : suc i ≡ i + 1 = omega arith in
-        ap bytes_of (drop-cons words i 0 h ∙ ap (λ (k : ℕ). get_or words i 0 ∷ drop k words) e) ∙ bytes_append (get_or words i 0 ∷ []) (drop (i + 1) words)
-
-    counted_on : length (bytes_of (drop i words)) ≡ 4 + length (bytes_of (drop (i + 1) words))
-    counted_on =
-        let a = ap length word_on ∙ length-append (bytes_of (get_or words i 0 ∷ [])) (bytes_of (drop (i + 1) words)) in
-        let b = bytes_long (get_or words i 0 ∷ []) in
-        omega arith
-
-    pub word_fits : at + 4 * length words ≤ length l₀ → p + 4 ≤ length l
-    word_fits k = let a = w.counted in let b = counted_on in let c = w.long in let d = bytes_long words in omega arith
-
-    pub word_turn : {l' : List ℕ} {next : ℕ} → next ≡ p + 4 → l' ≡ sets l p (bytes_of (get_or words i 0 ∷ [])) → Writing l₀ at (bytes_of words) l' next (bytes_of (drop (i + 1) words))
-    word_turn {l'} {next} q e =
-        let u = bytes_of (get_or words i 0 ∷ []) in
-        let a = w.counted in
-        let b = counted_on in
-        let n : length u ≡ 4 = bytes_long (get_or words i 0 ∷ []) in
-        record {
-          counted = omega arith;
-          same =
-              (λ j. sets (e j) ((q ∙ ap (λ (k : ℕ). p + k) (sym n)) j) (bytes_of (drop (i + 1) words)))
-              ∙ (sets_append l p u (bytes_of (drop (i + 1) words)) ∙ (ap (sets l p) (sym word_on) ∙ w.same));
-          long = ap length e ∙ (length-sets l p u ∙ w.long);
-        }
+-- the words of a view in three parts
+view_parts : (x y : ℕ) (b w : List ℕ) → bytes_of (x ∷ y ∷ b ++ w) ≡ (bytes_of (x ∷ y ∷ []) ++ bytes_of b) ++ bytes_of w
+view_parts x y b w = bytes_append (x ∷ y ∷ b) w ∙ ap (λ (l : List ℕ). l ++ bytes_of w) (bytes_append (x ∷ y ∷ []) b)
 
 -- the two counts leave a buffer's length
-pub counts_long : (view : List ℕ) (x y : ℕ) {view₁ view₂ : List ℕ} → view₁ ≡ sets view 0 (bytes_of (x ∷ [])) → view₂ ≡ sets view₁ 4 (bytes_of (y ∷ [])) → length view₂ ≡ length view
-counts_long view x y {view₁} {view₂} e h = ap length h ∙ (length-sets view₁ 4 (bytes_of (y ∷ [])) ∙ (ap length e ∙ length-sets view 0 (bytes_of (x ∷ []))))
-
--- the words of a view in four parts
-view_parts : (x y : ℕ) (b w : List ℕ) → bytes_of (x ∷ y ∷ b ++ w) ≡ ((bytes_of (x ∷ []) ++ bytes_of (y ∷ [])) ++ bytes_of b) ++ bytes_of w
-view_parts x y b w =
-    bytes_append (x ∷ y ∷ b) w
-    ∙ ap (λ (l : List ℕ). l ++ bytes_of w) (bytes_append (x ∷ y ∷ []) b ∙ ap (λ (l : List ℕ). l ++ bytes_of b) (bytes_append (x ∷ []) (y ∷ [])))
+pub counts_long : (view : List ℕ) (x y : ℕ) {view₁ : List ℕ} → view₁ ≡ sets view 0 (bytes_of (x ∷ y ∷ [])) → length view₁ ≡ length view
+counts_long view x y e = ap length e ∙ length-sets view 0 (bytes_of (x ∷ y ∷ []))
 
 take_short : (n : ℕ) (l : List ℕ) → length (take n l) ≤ length l
 take_short n l = let h = length-append (take n l) (drop n l) in let e = ap length (take-append-drop n l) in omega arith
@@ -144,37 +95,28 @@ module _ {m : MultiPortGraph} {M : Model} (f : Fine m M) where
         let t = lt-leb (length (view_bytes m)) (length view) (omega arith) in
         (rw t, rw t)
 
-    module _ {view₁ view₂ view₃ view₄ : List ℕ} (is_first : view₁ ≡ sets view 0 (bytes_of (blocks# ∷ []))) (isSecond : view₂ ≡ sets view₁ 4 (bytes_of (wires# ∷ [])))
-        (isThird : view₃ ≡ sets view₂ 8 (bytes_of (blocks_listed m))) (isFourth : view₄ ≡ sets view₃ (8 + 16 * blocks#) (bytes_of (wires_listed m))) where
-      abbrev u : List ℕ
-      u = bytes_of (length (blocks m) ∷ [])
-
-      abbrev v : List ℕ
-      v = bytes_of (length (all_wires m) ∷ [])
-
-      view_laid : view₄ ≡ sets view 0 (view_bytes m)
+    module _ {view₁ view₂ view₃ : List ℕ} (is_first : view₁ ≡ sets view 0 (bytes_of (blocks# ∷ wires# ∷ [])))
+        (isSecond : view₂ ≡ sets view₁ 8 (bytes_of (blocks_listed m))) (isThird : view₃ ≡ sets view₂ (8 + 16 * blocks#) (bytes_of (wires_listed m))) where
+      view_laid : view₃ ≡ sets view 0 (view_bytes m)
       unfolding view_bytes view_words
       view_laid =
+          let u = bytes_of (length (blocks m) ∷ length (all_wires m) ∷ []) in
           let b = bytes_of (blocks_listed m) in
           let w = bytes_of (wires_listed m) in
           let x : blocks# ≡ length (blocks m) = areBlocks ∙ visible_nodes_lem f in
           let y : wires# ≡ length (all_wires m) = areWires ∙ visible_links_lem f in
-          let lu = bytes_long (length (blocks m) ∷ []) in
-          let lv = bytes_long (length (all_wires m) ∷ []) in
-          let luv = length-append u v in
+          let lu = bytes_long (length (blocks m) ∷ length (all_wires m) ∷ []) in
           let lb = bytes_long (blocks_listed m) in
           let lm = blocks_length m in
-          let lall = length-append (u ++ v) b in
-          let z₁ : 4 ≡ 0 + length u = omega arith in
-          let z₂ : 8 ≡ 0 + length (u ++ v) = omega arith in
-          let z₃ : 8 + 16 * blocks# ≡ 0 + length ((u ++ v) ++ b) = omega arith in
-          let first : view₁ ≡ sets view 0 u = is_first ∙ ap (λ (k : ℕ). sets view 0 (bytes_of (k ∷ []))) x in
-          let second : view₂ ≡ sets view 0 (u ++ v) = isSecond ∙ ((λ j. sets (first j) (z₁ j) (bytes_of (y j ∷ []))) ∙ sets_append view 0 u v) in
-          let third : view₃ ≡ sets view 0 ((u ++ v) ++ b) = isThird ∙ ((λ j. sets (second j) (z₂ j) b) ∙ sets_append view 0 (u ++ v) b) in
-          let fourth : view₄ ≡ sets view 0 (((u ++ v) ++ b) ++ w) = isFourth ∙ ((λ j. sets (third j) (z₃ j) w) ∙ sets_append view 0 ((u ++ v) ++ b) w) in
-          fourth ∙ ap (sets view 0) (sym (view_parts (length (blocks m)) (length (all_wires m)) (blocks_listed m) (wires_listed m)))
+          let lall = length-append u b in
+          let z₁ : 8 ≡ 0 + length u = omega arith in
+          let z₂ : 8 + 16 * blocks# ≡ 0 + length (u ++ b) = omega arith in
+          let first : view₁ ≡ sets view 0 u = is_first ∙ (λ j. sets view 0 (bytes_of (x j ∷ y j ∷ []))) in
+          let second : view₂ ≡ sets view 0 (u ++ b) = isSecond ∙ ((λ j. sets (first j) (z₁ j) b) ∙ sets_append view 0 u b) in
+          let third : view₃ ≡ sets view 0 ((u ++ b) ++ w) = isThird ∙ ((λ j. sets (second j) (z₂ j) w) ∙ sets_append view 0 (u ++ b) w) in
+          third ∙ ap (sets view 0) (sym (view_parts (length (blocks m)) (length (all_wires m)) (blocks_listed m) (wires_listed m)))
 
-      pub view_done : 8 + 16 * blocks# + 32 * wires# ≤ length view → (8 + 16 * blocks# + 32 * wires# ≡ view_told m view) × (view₄ ≡ list_after (view_bytes m) view)
+      pub view_done : 8 + 16 * blocks# + 32 * wires# ≤ length view → (8 + 16 * blocks# + 32 * wires# ≡ view_told m view) × (view₃ ≡ list_after (view_bytes m) view)
       unfolding view_told list_after
       view_done h =
           let n = view_length in

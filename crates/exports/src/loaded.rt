@@ -1,7 +1,6 @@
 // A file in, the adds and links that build its wiring out, as requests.
-ghost use Rattle.std.specs.Prelude.{◌≡◌, [], ◌∷◌, ◌+◌, ◌≤◌, length, get_or, Err};
+ghost use Rattle.std.specs.Prelude.{◌≡◌, ◌+◌, ◌≤◌, length, get_or, Err};
 ghost use Rattle.std.proofs.lemmas.List.Edits.{sets};
-ghost use Rattle.records.specs.Words.{bytes_of};
 ghost use Rattle.files.specs.Loading.{load_numbers};
 ghost use Rattle.exports.specs.Exports.{refused_with, records_return, records_written};
 ghost use Rattle.exports.specs.LoadedSteps.{pair_requests};
@@ -10,19 +9,7 @@ use crate::told::{BAD_LAYOUT, BAD_SUMS, BUFFER_SHORT, refusal_told};
 use files::listing::{BUILD_NUMBERS, list_build};
 use files::load::LoadError;
 use port_tables::release::Release;
-use records::words::put_word;
-
-// Lays a request of two arguments.
-fn put_request(requests: &mut [u8], at: usize, code: u32, a: u32, b: u32)
-    requires { at + 20 ≤ length requests.old }
-    ensures { requests.new ≡ sets requests.old at (bytes_of (code ∷ a ∷ b ∷ 0 ∷ 0 ∷ [])) }
-{
-    put_word(requests, at, code);
-    put_word(requests, at + 4, a);
-    put_word(requests, at + 8, b);
-    put_word(requests, at + 12, 0);
-    put_word(requests, at + 16, 0);
-}
+use records::words::put_words;
 
 // Lays a request of a code for each two numbers; answers the place after them.
 fn put_requests(requests: &mut [u8], at: usize, code: u32, numbers: &[u32]) -> usize
@@ -30,20 +17,14 @@ fn put_requests(requests: &mut [u8], at: usize, code: u32, numbers: &[u32]) -> u
     ensures { (result ≡ at + length (pair_requests code numbers.now))
         × (requests.new ≡ sets requests.old at (pair_requests code numbers.now)) }
 {
-    for k in 0..numbers.len() / 2 {
-        put_request(
-            requests,
-            at + 20 * k,
-            code,
-            numbers[2 * k],
-            numbers[2 * k + 1],
-        );
+    for (k, pair) in numbers.chunks_exact(2).enumerate() {
+        put_words(requests, at + 20 * k, &[code, pair[0], pair[1], 0, 0]);
     }
     at + 20 * (numbers.len() / 2)
 }
 
 // A refused load, as one number.
-fn error_told(error: LoadError) -> u64
+pub(crate) fn error_told(error: LoadError) -> u64
     ensures { result ≡ refused_with (get_or (load_numbers (Err error)) 0 0) }
 {
     match error {

@@ -3,7 +3,8 @@ ghost use Rattle.std.specs.Prelude.{◌≡◌};
 ghost use Rattle.files.specs.Merging.{merge_buffer};
 ghost use Rattle.exports.specs.Exports.{merge_told, merge_return};
 
-use crate::told::{BAD_LAYOUT, BAD_SUMS, BUFFER_SHORT, refusal_told};
+use crate::loaded::error_told;
+use crate::told::BUFFER_SHORT;
 use files::merge::{MergeError, merge};
 
 // What merging comes to, as one number.
@@ -12,9 +13,7 @@ fn merge_told(answer: Result<usize, MergeError>) -> u64
 {
     match answer {
         Ok(size) => size as u64,
-        Err(MergeError::BadSums) => BAD_SUMS,
-        Err(MergeError::BadLayout) => BAD_LAYOUT,
-        Err(MergeError::Refused(refusal)) => refusal_told(refusal),
+        Err(MergeError::Load(error)) => error_told(error),
         Err(MergeError::BufferShort) => BUFFER_SHORT,
     }
 }

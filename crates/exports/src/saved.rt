@@ -2,9 +2,11 @@
 ghost use Rattle.std.specs.Prelude.{◌≡◌};
 ghost use Rattle.exports.specs.Exports.{save_told, save_return, save_written};
 
-use crate::left::lent_left;
+use crate::left::run_left;
 use crate::told::{BAD_LENGTH, BUFFER_SHORT};
 use files::save::{BufferShort, save_lent};
+use multiportgraph::lent_graph::LentGraph;
+use port_tables::release::Release;
 
 // What saving comes to, as one number.
 fn save_told(answer: Result<usize, BufferShort>) -> u64
@@ -25,5 +27,7 @@ pub fn save_records(requests: &[u8], file: &mut [u8]) -> u64
     if requests.len() % 20 != 0 {
         return BAD_LENGTH;
     }
-    save_told(save_lent(&lent_left(requests), file))
+    let mut graph = LentGraph::new(Release::One);
+    run_left(&mut graph, requests);
+    save_told(save_lent(&graph, file))
 }

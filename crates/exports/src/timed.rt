@@ -4,10 +4,12 @@ ghost use Rattle.multiportgraph.specs.WellFormed.{MultiWf};
 ghost use Rattle.exports.specs.Exports.{graph_left};
 ghost use Rattle.exports.specs.Timed.{longest_told, longest_return, path_told, path_return, path_written};
 
-use crate::left::lent_left;
+use crate::left::run_left;
 use crate::told::{BAD_LENGTH, BAD_TIMES, BUFFER_SHORT, CYCLE, refusal_told};
+use multiportgraph::lent_graph::LentGraph;
 use multiportgraph::multiportgraph::MultiPortGraph;
 use port_tables::index::NodeIndex;
+use port_tables::release::Release;
 use timing::answers::{LongestError, PathListed};
 use timing::longest::{longest, path};
 
@@ -16,7 +18,9 @@ use timing::longest::{longest, path};
 fn graph_left(requests: &[u8]) -> MultiPortGraph
     ensures { (result ≡ graph_left requests.now) × MultiWf result }
 {
-    lent_left(requests).graph()
+    let mut graph = LentGraph::new(Release::One);
+    run_left(&mut graph, requests);
+    graph.graph()
 }
 
 // A question without a largest sum, as one number.
@@ -45,13 +49,8 @@ fn path_told(listed: Result<PathListed, LongestError>, room: usize) -> u64
     ensures { result ≡ path_told listed room }
 {
     match listed {
-        Ok(path) => {
-            let blocks = path.blocks;
-            if room < blocks {
-                return BUFFER_SHORT;
-            }
-            blocks as u64
-        }
+        Ok(path) if room < path.blocks => BUFFER_SHORT,
+        Ok(path) => path.blocks as u64,
         Err(error) => error_told(error),
     }
 }

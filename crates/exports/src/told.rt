@@ -1,4 +1,5 @@
-// What an entry answers where it refuses: a number above every length. Stays a number: C calls the entries.
+// What an entry answers where it refuses: a number above every length. Stays a number: C calls the entries. Each entry tells its own error by a match: a From
+// for each, and a type of these numbers to be made, would be as long.
 ghost use Rattle.std.specs.Prelude.{◌≡◌, get_or};
 ghost use Rattle.multi_tables.specs.EndAnswers.{refusal_numbers};
 ghost use Rattle.exports.specs.Exports.{refused_with};
@@ -25,6 +26,5 @@ pub(crate) const CYCLE: u64 = REFUSED + 20;
 pub(crate) fn refusal_told(refusal: Refusal) -> u64
     ensures { result ≡ refused_with (get_or (refusal_numbers refusal) 0 0) }
 {
-    let words = refusal_words(refusal);
-    REFUSED + words.a as u64
+    REFUSED + refusal_words(refusal).0[0] as u64
 }

@@ -8,29 +8,20 @@ ghost use Rattle.records.specs.Words.{bytes_of};
 ghost use Rattle.multiportgraph.specs.MultiLent.{graph_of};
 ghost use Rattle.exports.specs.Viewed.{view_bytes, view_told, view_return, view_written};
 
-use crate::left::lent_left;
+use crate::left::run_left;
 use crate::told::{BAD_LENGTH, BUFFER_SHORT};
 use multiportgraph::lent_graph::LentGraph;
 use port_tables::index::{NODE_SLOTS, PORT_SLOTS};
-use records::words::put_word;
+use port_tables::release::Release;
+use records::words::put_words;
 
 // So many words the blocks take at most, and the wires, of which each has two port slots.
 const BLOCK_WORDS: usize = 4 * NODE_SLOTS;
 
 const WIRE_WORDS: usize = 4 * PORT_SLOTS;
 
-// Lays words from a byte position on.
-fn put_words(bytes: &mut [u8], at: usize, words: &[u32])
-    requires { at + 4 * length words.now ≤ length bytes.old }
-    ensures { bytes.new ≡ sets bytes.old at (bytes_of words.now) }
-{
-    for (i, word) in words.iter().enumerate() {
-        put_word(bytes, at + 4 * i, *word);
-    }
-}
-
 // Lays the blocks of a lent graph from a byte position on.
-// Stay two, this and the next: which list, and how many words an item has, is all that either says.
+// Stay two, this and the next: one for both would take the list as a closure, with its contract, and how many words an item has: longer than both.
 fn put_blocks(left: &LentGraph, view: &mut [u8], at: usize)
     requires { MultiWf (graph_of left.now)
         × (at + 16 * visible_nodes (graph_of left.now) ≤ length view.old) }
@@ -71,8 +62,7 @@ fn view_in(left: &LentGraph, view: &mut [u8]) -> u64
     if view.len() < size {
         return BUFFER_SHORT;
     }
-    put_word(view, 0, blocks as u32);
-    put_word(view, 4, wires as u32);
+    put_words(view, 0, &[blocks as u32, wires as u32]);
     put_blocks(left, view, 8);
     put_wires(left, view, second);
     size as u64
@@ -89,5 +79,7 @@ pub fn view_of_records(requests: &[u8], view: &mut [u8]) -> u64
     if requests.len() % 20 != 0 {
         return BAD_LENGTH;
     }
-    view_in(&lent_left(requests), view)
+    let mut graph = LentGraph::new(Release::One);
+    run_left(&mut graph, requests);
+    view_in(&graph, view)
 }

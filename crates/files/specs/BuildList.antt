@@ -8,7 +8,7 @@ use Rattle.files.specs.View.{BlockPorts, RankWire, View}
 use Rattle.files.specs.Layout.{unbytes}
 use Rattle.files.specs.Loading.{out_port, in_port, load_answer}
 use Rattle.files.specs.declared.load.LoadError.{LoadError}
-use Rattle.files.specs.declared.listing.BuildListed.{BuildListed}
+use Rattle.files.specs.declared.check.Shape.{Shape}
 
 -- what an add is asked with: incoming and outgoing
 abbrev pub add_pair : BlockPorts → List ℕ
@@ -27,7 +27,7 @@ if_loaded (Ok _) x y = x
 if_loaded (Err _) x y = y
 
 -- how many blocks and wires were built, or why the load for a release is refused
-unfoldable pub list_build : Release → List ℕ → Result BuildListed LoadError
+unfoldable pub list_build : Release → List ℕ → Result Shape LoadError
 list_build release bytes = result_and (load_answer release bytes) (Ok (record { blocks = length (unbytes bytes).blocks; wires = length (unbytes bytes).wires }))
 
 -- the lent list afterwards: the numbers, and past them what it held; as it was if the load is refused or it is too short

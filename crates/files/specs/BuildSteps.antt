@@ -1,12 +1,13 @@
 -- What the functions that build a file's wiring cite: calls one after the other, as far as the first that is refused; first ports; and
 -- blocks and wires read where they stand.
+use Rattle.std.specs.Option.{ok_or}
+use Rattle.std.specs.Result.{result_and, result_unwrap_or}
 use Rattle.std.specs.List.{list_all}
-use Rattle.std.specs.Prelude.{◌≡◌, refl, Bool, true, false, cond, ◌&&◌, List, [], ◌∷◌, ◌++◌, map, ℕ, zero, suc, ◌+◌, ◌*◌, ◌%◌, ◌≤◌, ◌<◌, eqb, ltb, length, get_or, set, drop, replicate, Result, Ok, Err, is_ok, IsErrAnd, MatchResult}
+use Rattle.std.specs.Prelude.{◌≡◌, refl, Bool, true, false, cond, ◌&&◌, List, [], ◌∷◌, ◌++◌, map, ℕ, zero, suc, ◌+◌, ◌*◌, ◌%◌, ◌≤◌, ◌<◌, eqb, ltb, length, get_or, set, drop, Option, Some, None, Result, Ok, Err, is_ok, IsErrAnd, MatchOption, MatchResult}
 use Rattle.std.proofs.Math.Path.{sym, ap, subst}
 use Rattle.std.proofs.Common.{◌∙◌, arith, drop_of_length-le, length-set, drop-cons, get_or-set_same, get_or-set_other, ltb-true, eqb-true}
 use Rattle.std.proofs.lemmas.Bool.{eqb-false}
-use Rattle.port_tables.specs.Limits.{node_slots, port_slots, free_lists}
-use Rattle.portgraph.specs.Lent.{node_words}
+use Rattle.port_tables.specs.Limits.{node_slots}
 use Rattle.multiportgraph.specs.Calls.{add_block, link_pair}
 use Rattle.multiportgraph.specs.CountLaws.{visible_nodes_lem}
 use Rattle.multiportgraph.specs.HiddenStays.{true_not_false}
@@ -20,7 +21,7 @@ use Rattle.theorems.specs.History.{step, State, next, run_from, run_from_under, 
 use Rattle.theorems.proofs.HistoryCounts.{visible_nodes_of_history}
 use Rattle.theorems.proofs.CallLaws.{empty_kept, step_kept, rel_run}
 use Rattle.files.specs.View.{BlockPorts, RankWire, View}
-use Rattle.files.specs.Layout.{field_at, block_of, wire_of, units_for, unbytes}
+use Rattle.files.specs.Layout.{Record, block_of, wire_of, units_for, unbytes}
 use Rattle.files.specs.Loading.{unit_list, units_right, is_laid, ranks_right, block_at, positions_right, order_right, view_right, first_port, out_port, in_port, add_of, link_of, build_of, after_call, first_refusal, first_refusal_under, graph_if, is_whole, load_answer, load_answer_under, load_graph, load_graph_under}
 use Rattle.files.specs.LaidLaws.{both_true}
 use Rattle.files.specs.Merging.{layout_answer}
@@ -28,6 +29,7 @@ use Rattle.files.specs.NextSlots.{first_port_first, first_port_next}
 use Rattle.files.specs.ViewLaws.{blocks_few_lem}
 use Rattle.files.specs.LoadForms.{place_of, record_in, no_wire, BlocksRead, WiresRead, ShapeIs, Laid, graph_after, StepIs, StepStops, Built, Firsts, Linkable}
 use Rattle.files.specs.declared.load.LoadError.{LoadError}
+use Rattle.files.specs.declared.check.Shape.{Shape}
 use Rattle.files.specs.declared.load.LoadError.TheVariants.{BadSums, BadLayout, Refused}
 use Rattle.files.specs.declared.load.FileLoaded.{FileLoaded}
 use Rattle.port_tables.specs.declared.index.NodeIndex.{NodeIndex}
@@ -148,11 +150,11 @@ module _ {m₀ m : MultiPortGraph} {calls left : List Call} (b : Building m₀ c
 -- Blocks and wires where they stand.
 
 module _ {bytes : List ℕ} {n : ℕ} (r : BlocksRead bytes n) where
-  pub adds_on : {i at : ℕ} → i < n → at ≡ place_of 0 i → map add_of (drop i (unbytes bytes).blocks) ≡ add_of (block_of (record_in bytes at)) ∷ map add_of (drop (i + 1) (unbytes bytes).blocks)
-  adds_on {i} {at} h e =
+  pub adds_on : {i : ℕ} {block : Record} → i < n → block ≡ record_in bytes (place_of 0 i) → map add_of (drop i (unbytes bytes).blocks) ≡ add_of (block_of block) ∷ map add_of (drop (i + 1) (unbytes bytes).blocks)
+  adds_on {i} {block} h e =
       let m = r.many in
       let s : suc i ≡ i + 1 = omega arith in
-      let x : block_at (unbytes bytes).blocks i ≡ block_of (record_in bytes at) = r.each i h ∙ ap (λ (p : ℕ). block_of (record_in bytes p)) (sym e) in
+      let x : block_at (unbytes bytes).blocks i ≡ block_of block = r.each i h ∙ ap block_of (sym e) in
       ap (map add_of) (drop-cons (unbytes bytes).blocks i (record { incoming = 0; outgoing = 0 }) (omega arith))
       ∙ (λ j. add_of (x j) ∷ map add_of (drop (s j) (unbytes bytes).blocks))
 
@@ -160,12 +162,12 @@ module _ {bytes : List ℕ} {n : ℕ} (r : BlocksRead bytes n) where
   adds_none {i} h = let m = r.many in ap (map add_of) (drop_of_length-le (unbytes bytes).blocks {i = i} (omega arith))
 
 module _ {bytes : List ℕ} {u n : ℕ} (r : WiresRead bytes u n) where
-  pub links_on : {i at : ℕ} → i < n → at ≡ place_of u i →
-      map (link_of (unbytes bytes).blocks) (drop i (unbytes bytes).wires) ≡ link_of (unbytes bytes).blocks (wire_of (record_in bytes at)) ∷ map (link_of (unbytes bytes).blocks) (drop (i + 1) (unbytes bytes).wires)
-  links_on {i} {at} h e =
+  pub links_on : {i : ℕ} {wire : Record} → i < n → wire ≡ record_in bytes (place_of u i) →
+      map (link_of (unbytes bytes).blocks) (drop i (unbytes bytes).wires) ≡ link_of (unbytes bytes).blocks (wire_of wire) ∷ map (link_of (unbytes bytes).blocks) (drop (i + 1) (unbytes bytes).wires)
+  links_on {i} {wire} h e =
       let m = r.many in
       let s : suc i ≡ i + 1 = omega arith in
-      let x : get_or (unbytes bytes).wires i no_wire ≡ wire_of (record_in bytes at) = r.each i h ∙ ap (λ (p : ℕ). wire_of (record_in bytes p)) (sym e) in
+      let x : get_or (unbytes bytes).wires i no_wire ≡ wire_of wire = r.each i h ∙ ap wire_of (sym e) in
       ap (map (link_of (unbytes bytes).blocks)) (drop-cons (unbytes bytes).wires i no_wire (omega arith))
       ∙ (λ j. link_of (unbytes bytes).blocks (x j) ∷ map (link_of (unbytes bytes).blocks) (drop (s j) (unbytes bytes).wires))
 
@@ -194,12 +196,12 @@ filling_begins bytes blocks table l =
     }
 
 module _ {bytes : List ℕ} {blocks : ℕ} {table : List ℕ} {next i : ℕ} (read : BlocksRead bytes blocks) (few : blocks ≤ node_slots) (f : Filling bytes blocks table next i) where
-  pub filling_turns : {at a b : ℕ} → i < blocks → at ≡ place_of 0 i → a ≡ field_at bytes at → b ≡ field_at bytes (at + 2) → a < 65536 → b < 65536 → Filling bytes blocks (set table i next) (next + (a + b)) (i + 1)
-  filling_turns {at} {a} {b} h e p q x y =
+  pub filling_turns : {block : Record} → i < blocks → block ≡ record_in bytes (place_of 0 i) → block.a < 65536 → block.b < 65536 → Filling bytes blocks (set table i next) (next + (block.a + block.b)) (i + 1)
+  filling_turns {block} h e x y =
       let m = read.many in
       let t : length table ≡ node_slots = f.long in
       let s : suc i ≡ i + 1 = omega arith in
-      let z : block_at (unbytes bytes).blocks i ≡ block_of (record_in bytes at) = read.each i h ∙ ap (λ (k : ℕ). block_of (record_in bytes k)) (sym e) in
+      let z : block_at (unbytes bytes).blocks i ≡ block_of block = read.each i h ∙ ap block_of (sym e) in
       let z₁ = ap (λ (k : BlockPorts). k.incoming) z in
       let z₂ = ap (λ (k : BlockPorts). k.outgoing) z in
       let n = first_port_next (unbytes bytes).blocks i (omega arith) in
@@ -241,39 +243,32 @@ every_at f [] i d e h = absurd (omega arith)
 every_at f (x ∷ l) zero d e h = (both_true (f x) (list_all f l) e).0
 every_at f (x ∷ l) (suc i) d e h = every_at f l i d (both_true (f x) (list_all f l) e).1 (omega arith)
 
-pub linkable : {table bytes : List ℕ} {blocks u n i at : ℕ} → Firsts table bytes blocks → BlocksRead bytes blocks → WiresRead bytes u n → view_right (unbytes bytes) ≡ true →
-    blocks ≤ node_slots → i < n → at ≡ place_of u i → Linkable table bytes blocks at
+pub linkable : {table bytes : List ℕ} {blocks u n i : ℕ} {wire : Record} → Firsts table bytes blocks → BlocksRead bytes blocks → WiresRead bytes u n → view_right (unbytes bytes) ≡ true →
+    blocks ≤ node_slots → i < n → wire ≡ record_in bytes (place_of u i) → Linkable table bytes blocks wire
 unfolding view_right ranks_right
-linkable {table} {bytes} {blocks} {u} {n} {i} {at} f b w e few h p =
+linkable {table} {bytes} {blocks} {u} {n} {i} {wire} f b w e few h p =
     let v = unbytes bytes in
     let m = w.many in
     let k = b.many in
-    let t = w.there i h in
     let x = both_true (order_right v.wires) (list_all (ranks_right v.blocks) v.wires && list_all (positions_right v.blocks) v.wires) e in
     let y = both_true (list_all (ranks_right v.blocks) v.wires) (list_all (positions_right v.blocks) v.wires) x.1 in
     let z = every_at (ranks_right v.blocks) v.wires i no_wire y.0 (omega arith) in
-    let g : get_or v.wires i no_wire ≡ wire_of (record_in bytes at) = w.each i h ∙ ap (λ (q : ℕ). wire_of (record_in bytes q)) (sym p) in
+    let g : get_or v.wires i no_wire ≡ wire_of wire = w.each i h ∙ ap wire_of (sym p) in
     let r = subst (λ (x : RankWire). (ltb x.source (length v.blocks) && ltb x.target (length v.blocks)) ≡ true) g z in
-    let s = both_true (ltb (field_at bytes at) (length v.blocks)) (ltb (field_at bytes (at + 4)) (length v.blocks)) r in
-    let a = ltb-true (field_at bytes at) (length v.blocks) s.0 in
-    let c = ltb-true (field_at bytes (at + 4)) (length v.blocks) s.1 in
-    record { firsts = f; read = b; few = few; room = omega arith; source = omega arith; target = omega arith }
+    let s = both_true (ltb wire.a (length v.blocks)) (ltb wire.c (length v.blocks)) r in
+    let a = ltb-true wire.a (length v.blocks) s.0 in
+    let c = ltb-true wire.c (length v.blocks) s.1 in
+    record { firsts = f; read = b; few = few; source = omega arith; target = omega arith }
 
-module _ {table bytes : List ℕ} {blocks at : ℕ} (l : Linkable table bytes blocks at) where
-  pub out_port_is : (source incoming output : ℕ) → source ≡ field_at bytes at → incoming ≡ field_at bytes (place_of 0 source) → output ≡ field_at bytes (at + 2) →
-      get_or table source 0 + incoming + output ≡ out_port (unbytes bytes).blocks (wire_of (record_in bytes at))
-  out_port_is source incoming output e f g =
-      let h = l.source in
-      let a = l.firsts.each source (omega arith) ∙ ap (first_port (unbytes bytes).blocks) e in
-      let b : incoming ≡ (block_at (unbytes bytes).blocks (field_at bytes at)).incoming =
-      f ∙ (sym (ap (λ (x : BlockPorts). x.incoming) (l.read.each source (omega arith))) ∙ ap (λ (r : ℕ). (block_at (unbytes bytes).blocks r).incoming) e) in
-      λ j. a j + b j + g j
+module _ {table bytes : List ℕ} {blocks : ℕ} {wire : Record} (l : Linkable table bytes blocks wire) where
+  pub out_port_is : (block : Record) → block ≡ record_in bytes (place_of 0 wire.a) → get_or table wire.a 0 + block.a + wire.b ≡ out_port (unbytes bytes).blocks (wire_of wire)
+  out_port_is block e =
+      let a = l.firsts.each wire.a l.source in
+      let b : block.a ≡ (block_at (unbytes bytes).blocks wire.a).incoming = ap (λ (x : Record). x.a) e ∙ sym (ap (λ (x : BlockPorts). x.incoming) (l.read.each wire.a l.source)) in
+      λ j. a j + b j + wire.b
 
-  pub in_port_is : (target input : ℕ) → target ≡ field_at bytes (at + 4) → input ≡ field_at bytes (at + 6) → get_or table target 0 + input ≡ in_port (unbytes bytes).blocks (wire_of (record_in bytes at))
-  in_port_is target input e f =
-      let h = l.target in
-      let a = l.firsts.each target (omega arith) ∙ ap (first_port (unbytes bytes).blocks) e in
-      λ j. a j + f j
+  pub in_port_is : get_or table wire.c 0 + wire.d ≡ in_port (unbytes bytes).blocks (wire_of wire)
+  in_port_is = ap (λ (n : ℕ). n + wire.d) (l.firsts.each wire.c l.target)
 
   pub first_small : (r : ℕ) → r < blocks → get_or table r 0 ≤ 131070 * node_slots
   first_small r h = let a = l.firsts.small r h in let b = l.few in omega arith
@@ -284,6 +279,17 @@ module _ (bytes : List ℕ) (w : is_whole bytes ≡ true) where
   pub units_wrong : units_right (unit_list bytes) ≡ false → layout_answer bytes ≡ Err BadLayout
   unfolding layout_answer is_laid
   units_wrong e = rw (w, e) refl
+
+  -- the shape of units that are right, and the refusal of those that are not
+  pub shape_found : (o : Option Shape) {s : Shape} → Ok s ≡ ok_or o BadLayout → MatchOption o (units_right (unit_list bytes) ≡ false) (λ s. ShapeIs bytes s.blocks s.wires)
+      → ShapeIs bytes s.blocks s.wires
+  shape_found (Some x) {s = s} h m = subst (λ (t : Shape). ShapeIs bytes t.blocks t.wires) (sym (ap (λ (v : Result Shape LoadError). result_unwrap_or v s) h)) m
+  shape_found None h m = absurd (true_not_false refl (ap is_ok h))
+
+  pub shape_missing : (o : Option Shape) {r : LoadError} → Err r ≡ ok_or o BadLayout
+      → MatchOption o (units_right (unit_list bytes) ≡ false) (λ s. ShapeIs bytes s.blocks s.wires) → layout_answer bytes ≡ Err r
+  shape_missing (Some x) h m = absurd (true_not_false refl (ap is_ok (sym h)))
+  shape_missing None h m = units_wrong m ∙ ap (λ (v : Result Shape LoadError). result_and v (Ok tt)) (sym h)
 
   module _ {blocks wires : ℕ} (s : ShapeIs bytes blocks wires) where
     pub view_wrong : false ≡ view_right (unbytes bytes) → layout_answer bytes ≡ Err BadLayout

@@ -1,25 +1,19 @@
 -- What the leaves over bytes lay.
-use Rattle.std.specs.Prelude.{◌≡◌, List, [], ◌∷◌, ◌++◌, ℕ, ◌+◌, ◌/◌, ◌%◌, ◌≤◌, length, take, drop}
-use Rattle.std.proofs.Common.{refl, sym, ap, ◌∙◌, append_assoc, arith}
-use Rattle.std.proofs.Math.Seq.{drop-drop}
-use Rattle.std.proofs.lemmas.List.Edits.{sets, sets-eq}
+use Rattle.std.specs.Prelude.{◌≡◌, List, [], ◌∷◌, ◌++◌, ℕ, ◌+◌, ◌/◌, ◌%◌}
+use Rattle.std.proofs.Common.{refl, ◌∙◌, arith}
+use Rattle.std.proofs.lemmas.List.Edits.{sets}
 use Rattle.port_tables.specs.ResizeLinkSteps.{sets_append}
 use Rattle.files.specs.Layout.{field_bytes, word_bytes, record_bytes}
 use Rattle.files.specs.Forms.{record_of}
 
 -- the bytes of a field, and of a word
-pub two_bytes : (x : ℕ) → x % 65536 % 256 ∷ x % 65536 / 256 % 256 ∷ [] ≡ field_bytes x
-unfolding field_bytes
-two_bytes x = let e : x % 65536 % 256 ≡ x % 256 = omega arith in let f : x % 65536 / 256 % 256 ≡ x / 256 % 256 = omega arith in rw (e, f) refl
-
-pub four_bytes : (x : ℕ) → x % 4294967296 % 256 ∷ x % 4294967296 / 256 % 256 ∷ x % 4294967296 / 65536 % 256 ∷ x % 4294967296 / 16777216 % 256 ∷ [] ≡ word_bytes x
+pub four_bytes : (x : ℕ) → x % 256 ∷ x / 256 % 256 ∷ x / 65536 % 256 ∷ x / 16777216 % 256 ∷ [] ≡ word_bytes x
 unfolding word_bytes field_bytes
 four_bytes x =
-    let a : x % 4294967296 % 256 ≡ x % 65536 % 256 = omega arith in
-    let b : x % 4294967296 / 256 % 256 ≡ x % 65536 / 256 % 256 = omega arith in
-    let c : x % 4294967296 / 65536 % 256 ≡ x / 65536 % 256 = omega arith in
-    let d : x % 4294967296 / 16777216 % 256 ≡ x / 65536 / 256 % 256 = omega arith in
-    rw (a, b, c, d) refl
+    let a : x % 256 ≡ x % 65536 % 256 = omega arith in
+    let b : x / 256 % 256 ≡ x % 65536 / 256 % 256 = omega arith in
+    let d : x / 16777216 % 256 ≡ x / 65536 / 256 % 256 = omega arith in
+    rw (a, b, d) refl
 
 -- a field, then what follows it
 pub field_then : (l : List ℕ) (i x : ℕ) (rest : List ℕ) → sets (sets l i (field_bytes x)) (i + 2) rest ≡ sets l i (field_bytes x ++ rest)

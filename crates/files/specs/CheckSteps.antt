@@ -3,16 +3,16 @@
 use Rattle.std.specs.List.{list_all}
 use Rattle.std.specs.Prelude.{◌≡◌, refl, Bool, true, false, cond, ◌&&◌, leb, take}
 use Rattle.std.proofs.Math.Path.{sym, ap}
-use Rattle.std.proofs.Common.{◌∙◌, length-append, get_or-take, take_all, eqb-true, eq-eqb, ne_eqb, leb-true, leb-false, le-leb}
+use Rattle.std.proofs.Common.{◌∙◌, length-append, eqb-true, eq-eqb, ne_eqb, leb-true, leb-false, le-leb}
 use Rattle.std.proofs.Math.Bool.{and_assoc, and-false}
-use mathlib.Core.List.{◌++◌, List, [], ◌∷◌, map}
-use Prim.Native.Nat.{ℕ, suc, ◌+◌, ◌-◌, ◌*◌, ◌/◌, ◌%◌, ◌≤◌, ◌<◌}
+use mathlib.Core.List.{◌++◌, List, [], ◌∷◌, map, append_assoc, append-nil}
+use Rattle.std.proofs.lemmas.List.{drop-append-le}
+use Prim.Native.Nat.{ℕ, zero, suc, ◌+◌, ◌-◌, ◌*◌, ◌/◌, ◌%◌, ◌≤◌, ◌<◌}
 use native.Mathlib.Omega.{arith}
 use Rattle.std.proofs.Math.Dec.{eqb}
-use Rattle.std.proofs.Math.ListN.{length, get_or, drop, length-drop}
-use Rattle.std.proofs.Math.Seq.{take_at, drop_at, get_or-drop, length-take-le}
+use Rattle.std.proofs.Math.ListN.{length, drop, length-drop}
+use Rattle.std.proofs.Math.Seq.{take_at, drop_at, length-take-le}
 use Rattle.std.proofs.lemmas.Bool.{eqb-false, lt-leb}
-use Rattle.portgraph.specs.Model.{total}
 use Rattle.portgraph.specs.Sums.{total_same}
 use Rattle.port_tables.specs.Listing.{length_map}
 use Rattle.files.specs.View.{View}
@@ -24,10 +24,14 @@ use Rattle.files.specs.LoadForms.{next_kind, kind_fits, count_fits, unit_fits, u
 
 -- Sums.
 
-pub sum_is : (unit : List ℕ) (a b : ℕ) → a ≡ word_at unit 508 → b ≡ total 127 (λ i. word_at unit (0 + 4 * i)) % 4294967296 → eqb a b ≡ sum_holds unit
+word_taken : (n i : ℕ) (l : List ℕ) → i + 4 ≤ n → word_at (take n l) i ≡ word_at l i
+unfolding word_at
+word_taken n i l h = let a = field_taken n i l (omega arith) in let b = field_taken n (i + 2) l (omega arith) in λ j. a j + 65536 * b j
+
+pub sum_is : (unit : List ℕ) (a b : ℕ) → length unit ≡ 512 → a ≡ word_at unit 508 → b ≡ sum_of (take 508 unit) → eqb a b ≡ sum_holds unit
 unfolding sum_holds sum_of
-sum_is unit a b e f =
-    let z = total_same 127 (λ i. word_at unit (0 + 4 * i)) (λ i. word_at unit (4 * i)) (λ i h. let q : 0 + 4 * i ≡ 4 * i = omega arith in ap (word_at unit) q) in
+sum_is unit a b n e f =
+    let z = total_same 127 (λ i. word_at (take 508 unit) (4 * i)) (λ i. word_at unit (4 * i)) (λ i h. word_taken 508 (4 * i) unit (omega arith)) in
     λ j. eqb (e j) ((f ∙ ap (λ (n : ℕ). n % 4294967296) z) j)
 
 -- Units from the front.
@@ -56,10 +60,6 @@ module _ (l : List ℕ) (some : 0 < length l) (whole : length l % 512 ≡ 0) whe
 pub none_left : (l : List ℕ) → length l ≤ 0 → l ≡ []
 none_left [] h = refl
 none_left (x ∷ l) h = absurd (omega arith)
-
--- what stands behind the first unit
-pub rest_is : (l : List ℕ) → take (length l - 512) (drop 512 l) ≡ drop 512 l
-rest_is l = let d = length-drop 512 l in take_all (length l - 512) (drop 512 l) (omega arith)
 
 -- Whole files.
 
@@ -293,139 +293,166 @@ units_as_fit (u ∷ l) =
     (λ j. kinds_first u l j && (a j && (zeros_right u && list_all zeros_right l)))
     ∙ (and_three k c (zeros_right u) (kinds_right l) (counts_right l) (list_all zeros_right l) ∙ (λ j. s j && units_as_fit l j))
 
--- the kind of the next unit
-pub no_next : (rest : List ℕ) → length rest < 1024 → 0 ≡ next_kind (unit_list (drop 512 rest))
-unfolding unit_list units_in
-no_next rest h = let d = length-drop 512 rest in let n : length (drop 512 rest) / 512 ≡ 0 = omega arith in rw n
-
-pub next_is : (rest : List ℕ) (kind : ℕ) → length rest % 512 ≡ 0 → 1024 ≤ length rest → kind ≡ field_at rest 512 → kind ≡ next_kind (unit_list (drop 512 rest))
-unfolding field_at
-next_is rest kind w h e =
-    let d = length-drop 512 rest in
-    let u = units_on (drop 512 rest) (omega arith) (omega arith) in
-    let g = get_or-drop 512 rest in
-    let a : get_or (take 512 (drop 512 rest)) 0 0 ≡ get_or rest 512 0 = get_or-take 512 (drop 512 rest) 0 0 (omega arith) ∙ g 0 0 in
-    let b : get_or (take 512 (drop 512 rest)) (0 + 1) 0 ≡ get_or rest (512 + 1) 0 = get_or-take 512 (drop 512 rest) (0 + 1) 0 (omega arith) ∙ g (0 + 1) 0 in
-    e ∙ ((λ j. sym a j + 256 * sym b j) ∙ sym (ap next_kind u))
-
 -- The shape.
 
-pub record Shaping (file rest : List ℕ) (blocks wires : ℕ) : Type 0 where
+-- a unit before others
+module _ (unit behind : List ℕ) (n : length unit ≡ 512) (w : length behind % 512 ≡ 0) where
+  abbrev both : List ℕ
+  both = unit ++ behind
+
+  units_before : unit_list both ≡ unit ∷ unit_list behind
+  units_before =
+      let l = length-append unit behind in
+      let a = take_at unit behind 512 n in
+      let b = drop_at unit behind 512 n in
+      units_on both (omega arith) (omega arith) ∙ (λ j. a j ∷ unit_list (b j))
+
+  field_first : (i : ℕ) → i + 2 ≤ 512 → field_at both i ≡ field_at unit i
+  field_first i h = sym (field_taken 512 i both h) ∙ ap (λ (l : List ℕ). field_at l i) (take_at unit behind 512 n)
+
+  counts_before : (t : Bool) → eqb (field_at unit 0) 1 ≡ t →
+      (length (unbytes both).blocks ≡ cond t (field_at unit 2) 0 + length (unbytes behind).blocks) × (length (unbytes both).wires ≡ cond t 0 (field_at unit 2) + length (unbytes behind).wires)
+  unfolding records_of
+  counts_before t e = let l = long in go t (view_on both (omega arith) (omega arith) ∙ (λ j. with_records ((ap (λ (k : ℕ). eqb k 1) (field_first 0 (omega arith)) ∙ e) j) records (unbytes (drop_at unit behind 512 n j))))
+    where
+      long : length both ≡ 512 + length behind
+      long = let l = length-append unit behind in omega arith
+
+      records : List Record
+      records = records_at (field_at both 2) (drop 4 both)
+
+      many : length records ≡ field_at unit 2
+      many = records_many (field_at both 2) (drop 4 both) ∙ field_first 2 (omega arith)
+
+      go : (t : Bool) → unbytes both ≡ with_records t records (unbytes behind) →
+          (length (unbytes both).blocks ≡ cond t (field_at unit 2) 0 + length (unbytes behind).blocks) × (length (unbytes both).wires ≡ cond t 0 (field_at unit 2) + length (unbytes behind).wires)
+      go true v =
+          let n = length-append (map block_of records) (unbytes behind).blocks in
+          let m = length_map block_of records in
+          let k = many in
+          let a = ap (λ (x : View). length x.blocks) v in
+          let b = ap (λ (x : View). length x.wires) v in
+          (omega arith, omega arith)
+      go false v =
+          let n = length-append (map wire_of records) (unbytes behind).wires in
+          let m = length_map wire_of records in
+          let k = many in
+          let a = ap (λ (x : View). length x.blocks) v in
+          let b = ap (λ (x : View). length x.wires) v in
+          (omega arith, omega arith)
+
+-- units that do not fit are not mended by those before them
+fit_not : (k : ℕ) (before l : List ℕ) → length before ≡ 512 * k → length l % 512 ≡ 0 → units_fit (unit_list l) ≡ false → units_fit (unit_list (before ++ l)) ≡ false
+unfolding units_fit
+fit_not zero before l h w e = ap (λ (x : List ℕ). units_fit (unit_list (x ++ l))) (none_left before (omega arith)) ∙ e
+fit_not (suc k) before l h w e =
+    let a = length-append before l in
+    let d = length-drop 512 before in
+    let b : drop 512 (before ++ l) ≡ drop 512 before ++ l = drop-append-le 512 before l (omega arith) in
+    ap units_fit (units_on (before ++ l) (omega arith) (omega arith))
+    ∙ (ap (λ (x : List ℕ). unit_fits (take 512 (before ++ l)) (next_kind (unit_list (drop 512 (before ++ l)))) && units_fit (unit_list x)) b
+    ∙ (ap (λ (x : Bool). unit_fits (take 512 (before ++ l)) (next_kind (unit_list (drop 512 (before ++ l)))) && x) (fit_not k (drop 512 before) l (omega arith) w e)
+    ∙ and-false (unit_fits (take 512 (before ++ l)) (next_kind (unit_list (drop 512 (before ++ l)))))))
+
+-- the units behind those that are left are right, and have the counts so far
+pub record Shaping (file rest : List ℕ) (next blocks wires : ℕ) : Type 0 where
+  pub behind : List ℕ
+  pub split : file ≡ rest ++ behind
   pub whole : length rest % 512 ≡ 0
-  pub same : units_fit (unit_list rest) ≡ units_right (unit_list file)
-  pub blocks_many : blocks + length (unbytes rest).blocks ≡ length (unbytes file).blocks
-  pub wires_many : wires + length (unbytes rest).wires ≡ length (unbytes file).wires
+  pub whole_behind : length behind % 512 ≡ 0
+  pub next_is : next ≡ next_kind (unit_list behind)
+  pub fit : units_fit (unit_list behind) ≡ true
+  pub blocks_many : blocks ≡ length (unbytes behind).blocks
+  pub wires_many : wires ≡ length (unbytes behind).wires
   pub blocks_few : blocks + length rest ≤ length file
   pub wires_few : wires + length rest ≤ length file
 
-pub shape_begins : (file : List ℕ) → length file % 512 ≡ 0 → Shaping file file 0 0
-shape_begins file h =
+pub shape_begins : (file aside : List ℕ) {rest : List ℕ} → length file % 512 ≡ 0 → file ≡ aside ++ rest → length aside ≡ length file % 512 → Shaping file rest 0 0 0
+unfolding unit_list units_in units_fit unbytes read_units
+shape_begins file aside {rest} h e l =
+    let z = none_left aside (omega arith) in
+    let s : file ≡ rest = e ∙ ap (λ (x : List ℕ). x ++ rest) z in
+    let n = ap length s in
     record {
-      whole = h;
-      same = sym (units_as_fit (unit_list file));
-      blocks_many = omega arith;
-      wires_many = omega arith;
+      behind = [];
+      split = s ∙ sym (append-nil rest);
+      whole = omega arith;
+      whole_behind = refl;
+      next_is = refl;
+      fit = refl;
+      blocks_many = refl;
+      wires_many = refl;
       blocks_few = omega arith;
       wires_few = omega arith;
     }
 
-module _ {file rest : List ℕ} {blocks wires : ℕ} (s : Shaping file rest blocks wires) where
-  pub shape_ends : length rest ≤ 0 → ShapeIs file blocks wires
-  unfolding unit_list units_in units_fit unbytes read_units
+module _ {file rest : List ℕ} {next blocks wires : ℕ} (s : Shaping file rest next blocks wires) where
+  pub shape_ends : length rest < 512 → ShapeIs file blocks wires
   shape_ends h =
-      let e = none_left rest h in
-      let b = ap (λ (l : List ℕ). length (unbytes l).blocks) e in
-      let w = ap (λ (l : List ℕ). length (unbytes l).wires) e in
-      let x = s.blocks_many in
-      let y = s.wires_many in
+      let w = s.whole in
+      let e : file ≡ s.behind = s.split ∙ ap (λ (l : List ℕ). l ++ s.behind) (none_left rest (omega arith)) in
       record {
-        units = sym (ap (λ (l : List ℕ). units_fit (unit_list l)) (sym e) ∙ s.same);
-        blocks_many = omega arith;
-        wires_many = omega arith;
+        units = ap (λ (l : List ℕ). units_right (unit_list l)) e ∙ (units_as_fit (unit_list s.behind) ∙ s.fit);
+        blocks_many = s.blocks_many ∙ ap (λ (l : List ℕ). length (unbytes l).blocks) (sym e);
+        wires_many = s.wires_many ∙ ap (λ (l : List ℕ). length (unbytes l).wires) (sym e);
       }
 
-  module _ (some : 0 < length rest) where
-    fit_on : units_fit (unit_list rest) ≡ (unit_fits (take 512 rest) (next_kind (unit_list (drop 512 rest))) && units_fit (unit_list (drop 512 rest)))
+  module _ (unit before : List ℕ) (e : rest ≡ before ++ unit) (n : length unit ≡ 512) where
+    split_on : file ≡ before ++ (unit ++ s.behind)
+    split_on = s.split ∙ (ap (λ (l : List ℕ). l ++ s.behind) e ∙ append_assoc before unit s.behind)
+
+    fit_on : units_fit (unit_list (unit ++ s.behind)) ≡ (unit_fits unit next && units_fit (unit_list s.behind))
     unfolding units_fit
-    fit_on = ap units_fit (units_on rest some s.whole)
+    fit_on = ap units_fit (units_before unit s.behind n s.whole_behind) ∙ ap (λ (k : ℕ). unit_fits unit k && units_fit (unit_list s.behind)) (sym s.next_is)
 
-    pub shape_broken : {n : ℕ} → n ≡ next_kind (unit_list (drop 512 rest)) → false ≡ unit_fits (take 512 rest) n → units_right (unit_list file) ≡ false
-    shape_broken e f =
-        let g : unit_fits (take 512 rest) (next_kind (unit_list (drop 512 rest))) ≡ false = sym (f ∙ ap (unit_fits (take 512 rest)) e) in
-        sym s.same ∙ (fit_on ∙ ap (λ (b : Bool). b && units_fit (unit_list (drop 512 rest))) g)
+    whole_before : length before % 512 ≡ 0
+    whole_before = let l = ap length e ∙ length-append before unit in let w = s.whole in omega arith
 
-    module _ {n : ℕ} (isNext : n ≡ next_kind (unit_list (drop 512 rest))) (fits : true ≡ unit_fits (take 512 rest) n) where
-      unit_fits_lem : unit_fits (take 512 rest) (next_kind (unit_list (drop 512 rest))) ≡ true
-      unit_fits_lem = sym (fits ∙ ap (unit_fits (take 512 rest)) isNext)
+    pub shape_broken : false ≡ unit_fits unit next → units_right (unit_list file) ≡ false
+    shape_broken f =
+        let w = whole_before in
+        let l = length-append unit s.behind in
+        let v = s.whole_behind in
+        let here : units_fit (unit_list (unit ++ s.behind)) ≡ false = fit_on ∙ ap (λ (b : Bool). b && units_fit (unit_list s.behind)) (sym f) in
+        ap (λ (x : List ℕ). units_right (unit_list x)) split_on
+        ∙ (units_as_fit (unit_list (before ++ (unit ++ s.behind))) ∙ fit_not (length before / 512) before (unit ++ s.behind) (omega arith) (omega arith) here)
 
-      pub shape_few : field_at rest 2 ≤ unit_records
+    module _ (fits : true ≡ unit_fits unit next) where
+      shape_few : field_at unit 2 ≤ unit_records
       unfolding unit_fits
       shape_few =
-          let a = both_true (kind_fits (kind_of (take 512 rest)) (next_kind (unit_list (drop 512 rest)))) _ unit_fits_lem in
-          let b = both_true (count_fits (kind_of (take 512 rest)) (next_kind (unit_list (drop 512 rest))) (count_of (take 512 rest))) _ a.1 in
-          let c = count_few (kind_of (take 512 rest)) (next_kind (unit_list (drop 512 rest))) (count_of (take 512 rest)) b.0 in
-          let d = field_taken 512 2 rest (omega arith) in
-          omega arith
+          let a = both_true (kind_fits (kind_of unit) next) _ (sym fits) in
+          let b = both_true (count_fits (kind_of unit) next (count_of unit)) _ a.1 in
+          count_few (kind_of unit) next (count_of unit) b.0
 
-      later_same : units_fit (unit_list (drop 512 rest)) ≡ units_right (unit_list file)
-      later_same = sym (fit_on ∙ ap (λ (b : Bool). b && units_fit (unit_list (drop 512 rest))) unit_fits_lem) ∙ s.same
-
-      view_counts : (t : Bool) → eqb (field_at rest 0) 1 ≡ t →
-          (length (unbytes rest).blocks ≡ cond t (field_at rest 2) 0 + length (unbytes (drop 512 rest)).blocks)
-          × (length (unbytes rest).wires ≡ cond t 0 (field_at rest 2) + length (unbytes (drop 512 rest)).wires)
-      unfolding records_of
-      view_counts t e = go t (view_on rest some s.whole ∙ ap (λ (b : Bool). with_records b records later) e)
-        where
-          records : List Record
-          records = records_at (field_at rest 2) (drop 4 rest)
-
-          later : View
-          later = unbytes (drop 512 rest)
-
-          go : (t : Bool) → unbytes rest ≡ with_records t records later →
-              (length (unbytes rest).blocks ≡ cond t (field_at rest 2) 0 + length later.blocks) × (length (unbytes rest).wires ≡ cond t 0 (field_at rest 2) + length later.wires)
-          go true v =
-              let n = length-append (map block_of records) later.blocks in
-              let m = length_map block_of records in
-              let k = records_many (field_at rest 2) (drop 4 rest) in
-              let a = ap (λ (x : View). length x.blocks) v in
-              let b = ap (λ (x : View). length x.wires) v in
-              (omega arith, omega arith)
-          go false v =
-              let n = length-append (map wire_of records) later.wires in
-              let m = length_map wire_of records in
-              let k = records_many (field_at rest 2) (drop 4 rest) in
-              let a = ap (λ (x : View). length x.blocks) v in
-              let b = ap (λ (x : View). length x.wires) v in
-              (omega arith, omega arith)
-
-      module _ {kind count b w : ℕ} (isKind : kind ≡ field_at rest 0) (isCount : count ≡ field_at rest 2) where
-        pub shape_blocks : kind ≡ 1 → b ≡ blocks + count → w ≡ wires → Shaping file (drop 512 rest) b w
-        shape_blocks e p q =
-            let d = length-drop 512 rest in
+      module _ {kind count b w : ℕ} (isKind : kind ≡ field_at unit 0) (isCount : count ≡ field_at unit 2) where
+        shaped : (t : Bool) → eqb (field_at unit 0) 1 ≡ t → b ≡ blocks + cond t count 0 → w ≡ wires + cond t 0 count → Shaping file before kind b w
+        shaped t q x y =
+            let c = counts_before unit s.behind n s.whole_behind t q in
+            let l = ap length e ∙ length-append before unit in
+            let m = length-append unit s.behind in
+            let v = s.whole_behind in
             let f = shape_few in
-            let v = view_counts true (eq-eqb (field_at rest 0) 1 (sym isKind ∙ e)) in
-            let u = whole_unit rest some s.whole in
+            let k = small t in
             record {
-              whole = whole_on rest some s.whole;
-              same = later_same;
-              blocks_many = omega (arith, s.blocks_many, v.0);
-              wires_many = omega (arith, s.wires_many, v.1);
-              blocks_few = omega (arith, s.blocks_few);
-              wires_few = omega (arith, s.wires_few);
+              behind = unit ++ s.behind;
+              split = split_on;
+              whole = whole_before;
+              whole_behind = omega arith;
+              next_is = isKind ∙ ap next_kind (sym (units_before unit s.behind n s.whole_behind));
+              fit = fit_on ∙ (λ j. sym fits j && s.fit j);
+              blocks_many = x ∙ ((λ j. s.blocks_many j + cond t (isCount j) 0) ∙ (omega (arith, c.0)));
+              wires_many = y ∙ ((λ j. s.wires_many j + cond t 0 (isCount j)) ∙ (omega (arith, c.1)));
+              blocks_few = let r = s.blocks_few in omega (arith, k.0);
+              wires_few = let r = s.wires_few in omega (arith, k.1);
             }
+          where
+            small : (t : Bool) → (cond t count 0 ≤ 512) × (cond t 0 count ≤ 512)
+            small true = let f = shape_few in (omega arith, omega arith)
+            small false = let f = shape_few in (omega arith, omega arith)
 
-        pub shape_wires : (kind ≡ 1 → ⊥) → b ≡ blocks → w ≡ wires + count → Shaping file (drop 512 rest) b w
-        shape_wires e p q =
-            let d = length-drop 512 rest in
-            let f = shape_few in
-            let v = view_counts false (ne_eqb (field_at rest 0) 1 (λ z. e (isKind ∙ z))) in
-            let u = whole_unit rest some s.whole in
-            record {
-              whole = whole_on rest some s.whole;
-              same = later_same;
-              blocks_many = omega (arith, s.blocks_many, v.0);
-              wires_many = omega (arith, s.wires_many, v.1);
-              blocks_few = omega (arith, s.blocks_few);
-              wires_few = omega (arith, s.wires_few);
-            }
+        pub shape_blocks : kind ≡ 1 → b ≡ blocks + count → w ≡ wires → Shaping file before kind b w
+        shape_blocks z p q = shaped true (eq-eqb (field_at unit 0) 1 (sym isKind ∙ z)) p (omega arith)
+
+        pub shape_wires : (kind ≡ 1 → ⊥) → b ≡ blocks → w ≡ wires + count → Shaping file before kind b w
+        shape_wires z p q = shaped false (ne_eqb (field_at unit 0) 1 (λ y. z (isKind ∙ y))) (omega arith) q

@@ -23,7 +23,7 @@ use Rattle.port_tables.specs.declared.release.Release.{Release}
 use Rattle.theorems.proofs.CallLaws.{rel_run}
 use Rattle.theorems.specs.History.{run}
 use Rattle.files.specs.View.{View, rank_among, rank_wire, view_of}
-use Rattle.files.specs.Layout.{field_at, block_of, wire_of, units_for, unbytes}
+use Rattle.files.specs.Layout.{Record, block_of, wire_of, units_for, unbytes}
 use Rattle.files.specs.Loading.{is_whole, is_laid, add_of, link_of, out_port, in_port, build_of, first_refusal, load_answer, load_answer_under}
 use Rattle.files.specs.BuildList.{add_pair, link_pair, build_numbers, list_build, build_after}
 use Rattle.files.specs.OrderLaws.{sorted_length}
@@ -34,7 +34,7 @@ use Rattle.files.specs.LoadForms.{place_of, record_in, no_wire, BlocksRead, Wire
 use Rattle.files.specs.BuildSteps.{err_is, is_loaded, adds_few, first_refused}
 use Rattle.files.specs.declared.load.LoadError.{LoadError}
 use Rattle.files.specs.declared.load.LoadError.TheVariants.{BadSums, BadLayout}
-use Rattle.files.specs.declared.listing.BuildListed.{BuildListed}
+use Rattle.files.specs.declared.check.Shape.{Shape}
 
 pub two_numbers : (l : List ℕ) (i a b : ℕ) → set (set l i a) (i + 1) b ≡ sets l i (a ∷ b ∷ [])
 two_numbers l i a b = let e : i + 1 ≡ suc i = omega arith in rw e
@@ -75,18 +75,18 @@ module _ {A : Type 0} {f : A → List ℕ} {l : List A} where
 
 -- The blocks and wires of a file.
 
-pub add_turn : {bytes numbers₀ numbers numbers' : List ℕ} {n i at a b k : ℕ} → BlocksRead bytes n → Pairs add_pair (unbytes bytes).blocks numbers₀ 0 numbers i → i < n → at ≡ place_of 0 i →
-    a ≡ field_at bytes at → b ≡ field_at bytes (at + 2) → k ≡ 2 * i → numbers' ≡ sets numbers k (a ∷ b ∷ []) → Pairs add_pair (unbytes bytes).blocks numbers₀ 0 numbers' (i + 1)
-add_turn {bytes} {numbers = numbers} {k = k} r p h e x y q g =
+pub add_turn : {bytes numbers₀ numbers numbers' : List ℕ} {n i k : ℕ} {block : Record} → BlocksRead bytes n → Pairs add_pair (unbytes bytes).blocks numbers₀ 0 numbers i → i < n → block ≡ record_in bytes (place_of 0 i) →
+    k ≡ 2 * i → numbers' ≡ sets numbers k (block.a ∷ block.b ∷ []) → Pairs add_pair (unbytes bytes).blocks numbers₀ 0 numbers' (i + 1)
+add_turn {bytes} r p h e q g =
     let m = r.many in
-    pairs_turn p (record { incoming = 0; outgoing = 0 }) (omega arith) (r.each _ h ∙ ap (λ (q : ℕ). block_of (record_in bytes q)) (sym e)) refl (omega arith) (g ∙ (λ j. sets numbers k (x j ∷ y j ∷ [])))
+    pairs_turn p (record { incoming = 0; outgoing = 0 }) (omega arith) (r.each _ h ∙ ap block_of (sym e)) refl (omega arith) g
 
-pub link_turn : {bytes numbers₀ numbers numbers' : List ℕ} {u n i at from a b k : ℕ} → WiresRead bytes u n → Pairs (link_pair (unbytes bytes).blocks) (unbytes bytes).wires numbers₀ from numbers i → i < n → at ≡ place_of u i →
-    a ≡ out_port (unbytes bytes).blocks (wire_of (record_in bytes at)) → b ≡ in_port (unbytes bytes).blocks (wire_of (record_in bytes at)) → k ≡ from + 2 * i → numbers' ≡ sets numbers k (a ∷ b ∷ []) →
+pub link_turn : {bytes numbers₀ numbers numbers' : List ℕ} {u n i from a b k : ℕ} {wire : Record} → WiresRead bytes u n → Pairs (link_pair (unbytes bytes).blocks) (unbytes bytes).wires numbers₀ from numbers i → i < n → wire ≡ record_in bytes (place_of u i) →
+    a ≡ out_port (unbytes bytes).blocks (wire_of wire) → b ≡ in_port (unbytes bytes).blocks (wire_of wire) → k ≡ from + 2 * i → numbers' ≡ sets numbers k (a ∷ b ∷ []) →
     Pairs (link_pair (unbytes bytes).blocks) (unbytes bytes).wires numbers₀ from numbers' (i + 1)
 link_turn {bytes} {numbers = numbers} {k = k} r p h e x y q g =
     let m = r.many in
-    pairs_turn p no_wire (omega arith) (r.each _ h ∙ ap (λ (q : ℕ). wire_of (record_in bytes q)) (sym e)) refl q (g ∙ (λ j. sets numbers k (x j ∷ y j ∷ [])))
+    pairs_turn p no_wire (omega arith) (r.each _ h ∙ ap wire_of (sym e)) refl q (g ∙ (λ j. sets numbers k (x j ∷ y j ∷ [])))
 
 module _ {bytes : List ℕ} {n w : ℕ} (l : Laid bytes n w) where
   numbers_long : length (build_numbers (unbytes bytes)) ≡ 2 * (n + w)
@@ -132,7 +132,7 @@ module _ {bytes : List ℕ} {n w : ℕ} (l : Laid bytes n w) where
 -- Answers.
 
 module _ (release : Release) (bytes numbers : List ℕ) where
-  pub list_refused : {r : LoadError} (a : Result BuildListed LoadError) → IsErrAnd a (λ told. told ≡ r) → load_answer release bytes ≡ Err r → (a ≡ list_build release bytes) × (numbers ≡ build_after release bytes numbers)
+  pub list_refused : {r : LoadError} (a : Result Shape LoadError) → IsErrAnd a (λ told. told ≡ r) → load_answer release bytes ≡ Err r → (a ≡ list_build release bytes) × (numbers ≡ build_after release bytes numbers)
   unfolding list_build build_after
   list_refused a h e = rw e (err_is a h, refl)
 

@@ -111,11 +111,10 @@ pub record Firsts (table bytes : List ℕ) (blocks : ℕ) : Type 0 where
   pub each : (r : ℕ) → r < blocks → get_or table r 0 ≡ first_port (unbytes bytes).blocks r
   pub small : (r : ℕ) → r < blocks → get_or table r 0 ≤ 131070 * r
 
--- a wire at a byte position whose ports can be told
-pub record Linkable (table bytes : List ℕ) (blocks at : ℕ) : Type 0 where
+-- a wire whose ports can be told
+pub record Linkable (table bytes : List ℕ) (blocks : ℕ) (r : Record) : Type 0 where
   pub firsts : Firsts table bytes blocks
   pub read : BlocksRead bytes blocks
   pub few : blocks ≤ node_slots
-  pub room : at + 8 ≤ length bytes
-  pub source : field_at bytes at < blocks
-  pub target : field_at bytes (at + 4) < blocks
+  pub source : r.a < blocks
+  pub target : r.c < blocks

@@ -37,7 +37,7 @@ use Rattle.files.specs.MergeLaws.{merged_sound, merged_fits}
 use Rattle.files.specs.MergeClaims.{IsLaid, Loads, MergeTold, first_sums, first_layout, second_sums, second_layout, first_refused, second_refused, result_refused, buffer_short, accepted}
 use Rattle.files.specs.declared.load.LoadError.TheVariants as load
 use Rattle.files.specs.declared.merge.MergeError.{MergeError}
-use Rattle.files.specs.declared.merge.MergeError.TheVariants.{BadSums, BadLayout, Refused, BufferShort}
+use Rattle.files.specs.declared.merge.MergeError.TheVariants.{Load, BufferShort}
 
 -- A file that loads.
 
@@ -178,20 +178,20 @@ module _ (first second buffer : List ℕ) where
       ⊎_elim
       (λ (f : Loads second).
       ⊎_elim (λ (g : Loads (merged_file first second)). some_written e f g (leb (length (merged_file first second)) (length buffer)) refl)
-      (λ (g : (r : Refusal) × (load_answer One (merged_file first second) ≡ Err (load.Refused r))). (Err (Refused g.0), result_refused e f g.1))
+      (λ (g : (r : Refusal) × (load_answer One (merged_file first second) ≡ Err (load.Refused r))). (Err (Load (load.Refused g.0)), result_refused e f g.1))
       (laid_loads (merged_file first second) (result_is_laid first second small small₂ e f)))
-      (λ (f : (r : Refusal) × (load_answer One second ≡ Err (load.Refused r))). (Err (Refused f.0), second_refused e f.1)) (laid_loads second k))
-      (λ (e : (r : Refusal) × (load_answer One first ≡ Err (load.Refused r))). (Err (Refused e.0), first_refused k e.1)) (laid_loads first l)
+      (λ (f : (r : Refusal) × (load_answer One second ≡ Err (load.Refused r))). (Err (Load (load.Refused f.0)), second_refused e f.1)) (laid_loads second k))
+      (λ (e : (r : Refusal) × (load_answer One first ≡ Err (load.Refused r))). (Err (Load (load.Refused e.0)), first_refused k e.1)) (laid_loads first l)
 
   some_second : Bytes first → Bytes second → IsLaid first → (t : Bool) → is_whole second ≡ t → (s : Bool) → is_laid second ≡ s → Some
   some_second small small₂ l true a true b = some_loaded small small₂ l (a, b)
-  some_second small small₂ l true a false b = (Err BadLayout, second_layout l a b)
-  some_second small small₂ l false a s b = (Err BadSums, second_sums l a)
+  some_second small small₂ l true a false b = (Err (Load load.BadLayout), second_layout l a b)
+  some_second small small₂ l false a s b = (Err (Load load.BadSums), second_sums l a)
 
   some_first : Bytes first → Bytes second → (t : Bool) → is_whole first ≡ t → (s : Bool) → is_laid first ≡ s → Some
   some_first small small₂ true a true b = some_second small small₂ (a, b) (is_whole second) refl (is_laid second) refl
-  some_first small small₂ true a false b = (Err BadLayout, first_layout a b)
-  some_first small small₂ false a s b = (Err BadSums, first_sums a)
+  some_first small small₂ true a false b = (Err (Load load.BadLayout), first_layout a b)
+  some_first small small₂ false a s b = (Err (Load load.BadSums), first_sums a)
 
   pub answer_told : Bytes first → Bytes second → MergeTold first second buffer (merge_answer first second buffer)
   answer_told small small₂ =

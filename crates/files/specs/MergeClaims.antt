@@ -6,7 +6,7 @@ use Rattle.files.specs.Loading.{is_whole, is_laid, load_answer}
 use Rattle.files.specs.Merging.{merged_file}
 use Rattle.files.specs.declared.load.LoadError.TheVariants as load
 use Rattle.files.specs.declared.merge.MergeError.{MergeError}
-use Rattle.files.specs.declared.merge.MergeError.TheVariants.{BadSums, BadLayout, Refused, BufferShort}
+use Rattle.files.specs.declared.merge.MergeError.TheVariants.{Load, BufferShort}
 
 -- neither 16 nor 17
 abbrev pub IsLaid : List ℕ → Type 0
@@ -19,17 +19,17 @@ Loads bytes = load_answer One bytes ≡ Ok tt
 -- Which answer is given, the conditions in their order:
 pub data MergeTold (first second buffer : List ℕ) : Result ℕ MergeError → Type 0 where
   -- 16 and 17 for the first file,
-  first_sums : is_whole first ≡ false → MergeTold first second buffer (Err BadSums)
-  first_layout : is_whole first ≡ true → is_laid first ≡ false → MergeTold first second buffer (Err BadLayout)
+  first_sums : is_whole first ≡ false → MergeTold first second buffer (Err (Load load.BadSums))
+  first_layout : is_whole first ≡ true → is_laid first ≡ false → MergeTold first second buffer (Err (Load load.BadLayout))
   -- then for the second;
-  second_sums : IsLaid first → is_whole second ≡ false → MergeTold first second buffer (Err BadSums)
-  second_layout : IsLaid first → is_whole second ≡ true → is_laid second ≡ false → MergeTold first second buffer (Err BadLayout)
+  second_sums : IsLaid first → is_whole second ≡ false → MergeTold first second buffer (Err (Load load.BadSums))
+  second_layout : IsLaid first → is_whole second ≡ true → is_laid second ≡ false → MergeTold first second buffer (Err (Load load.BadLayout))
   -- then what loading the first,
-  first_refused : {r : Refusal} → IsLaid second → load_answer One first ≡ Err (load.Refused r) → MergeTold first second buffer (Err (Refused r))
+  first_refused : {r : Refusal} → IsLaid second → load_answer One first ≡ Err (load.Refused r) → MergeTold first second buffer (Err (Load (load.Refused r)))
   -- the second
-  second_refused : {r : Refusal} → Loads first → load_answer One second ≡ Err (load.Refused r) → MergeTold first second buffer (Err (Refused r))
+  second_refused : {r : Refusal} → Loads first → load_answer One second ≡ Err (load.Refused r) → MergeTold first second buffer (Err (Load (load.Refused r)))
   -- or the result for release 1 gives;
-  result_refused : {r : Refusal} → Loads first → Loads second → load_answer One (merged_file first second) ≡ Err (load.Refused r) → MergeTold first second buffer (Err (Refused r))
+  result_refused : {r : Refusal} → Loads first → Loads second → load_answer One (merged_file first second) ≡ Err (load.Refused r) → MergeTold first second buffer (Err (Load (load.Refused r)))
   -- 15 last,
   buffer_short : Loads first → Loads second → Loads (merged_file first second) → length buffer < length (merged_file first second) → MergeTold first second buffer (Err BufferShort)
   -- and the length where nothing is refused

@@ -1,13 +1,13 @@
 -- What the functions that merge files cite: the records of both as numbers, the result laid and built, and the answers in their order.
 use Rattle.std.specs.Prelude.{◌≡◌, true, ℕ, zero, suc, ◌+◌, ◌-◌, ◌*◌, ◌≤◌, ◌<◌, get_or, set, take, Result, Ok, Err, IsErrAnd}
 use Rattle.std.proofs.Math.Path.{refl, ap}
-use Rattle.std.proofs.Common.{sym, ◌∙◌, subst, inl, inr, length-append, length-drop, take_at}
-use mathlib.Core.List.{List, [], ◌∷◌, ◌++◌, map, append_assoc, append-nil}
+use Rattle.std.proofs.Common.{sym, ◌∙◌, subst, inl, inr, length-append, take_at}
+use mathlib.Core.List.{List, [], ◌∷◌, ◌++◌, map}
 use native.Mathlib.Omega.{arith}
 use Rattle.std.proofs.Math.ListN.{length, drop}
 use Rattle.std.proofs.Math.Seq.{sets}
 use Rattle.std.proofs.lemmas.List.Edits.{sets-eq}
-use Rattle.std.proofs.lemmas.List.{set_at, nil_from_length}
+use Rattle.std.proofs.lemmas.List.{take_all, take_more_set}
 use Rattle.std.proofs.lemmas.Slice.{take-put_mid}
 use borrow.Rule.Slice.PartMut.{put_mid}
 use borrow.Author.Tests.{le-leb, lt-leb}
@@ -24,17 +24,17 @@ use Rattle.files.specs.Claims.{Bytes, Sound}
 use Rattle.files.specs.LaidLaws.{both_true}
 use Rattle.files.specs.SoundLaws.{laid_sound, said_fits}
 use Rattle.files.specs.LaidAgain.{written_laid}
-use Rattle.files.specs.Forms.{number_of, record_of, turns}
+use Rattle.files.specs.Forms.{number_of, record_of}
 use Rattle.files.specs.LoadForms.{place_of, record_in, no_wire, BlocksRead, WiresRead, Laid}
 use Rattle.files.specs.SaveSteps.{records_back}
 use Rattle.files.specs.WireSteps.{blocks_read, wires_read}
-use Rattle.files.specs.Merging.{raised, merged_view, merged_file, layout_answer, merge_error, result_answer, merge_answer, buffer_if, merge_buffer}
+use Rattle.files.specs.Merging.{raised, merged_view, merged_file, layout_answer, result_answer, merge_answer, buffer_if, merge_buffer}
 use Rattle.files.specs.MergeForms.{block_read, wire_read, RaisedFit, BothLaid, BothFew}
 use Rattle.files.specs.MergeLaws.{map_unraised, map_both, merged_appends, merged_sound, merged_fits}
 use Rattle.files.specs.MergeAnswers.{loaded_few}
 use Rattle.files.specs.declared.load.LoadError.{LoadError}
 use Rattle.files.specs.declared.merge.MergeError.{MergeError}
-use Rattle.files.specs.declared.merge.MergeError.TheVariants.{BufferShort}
+use Rattle.files.specs.declared.merge.MergeError.TheVariants.{Load, BufferShort}
 
 -- Records as numbers.
 
@@ -113,25 +113,21 @@ module _ (bytes : List ℕ) (small : Bytes bytes) where
 
 -- Numbers stored in a list, one after the other.
 
-stored_from : (f : ℕ → ℕ) (n i : ℕ) (sofar rest : List ℕ) → length sofar ≡ i → n ≤ length rest →
-    turns (λ j l. set l j (f j)) i n (sofar ++ rest) ≡ (sofar ++ map f (range i n)) ++ drop n rest
-unfolding turns range
-stored_from f zero i sofar rest e h = ap (λ l. l ++ rest) (sym (append-nil sofar))
-stored_from f (suc n) i sofar [] e h = absurd (omega arith)
-stored_from f (suc n) i sofar (z ∷ rest) e h =
-    let x = f i in
-    let a : set (sofar ++ (z ∷ rest)) i x ≡ (sofar ++ (x ∷ [])) ++ rest = set_at sofar z rest x i e ∙ sym (append_assoc sofar (x ∷ []) rest) in
-    let l = length-append sofar (x ∷ []) in
-    ap (turns (λ j l. set l j (f j)) (suc i) n) a
-    ∙ (stored_from f n (suc i) (sofar ++ (x ∷ [])) rest (omega arith) (omega arith)
-    ∙ ap (λ k. k ++ drop n rest) (append_assoc sofar (x ∷ []) (map f (range (suc i) n))))
+range_last : (s n : ℕ) → range s (suc n) ≡ range s n ++ ((s + n) ∷ [])
+unfolding range
+range_last s zero = let e : s ≡ s + 0 = omega arith in ap (λ (k : ℕ). k ∷ []) e
+range_last s (suc n) = let e : suc s + n ≡ s + suc n = omega arith in ap (λ (l : List ℕ). s ∷ l) (range_last (suc s) n) ∙ ap (λ (k : ℕ). s ∷ (range (suc s) n ++ (k ∷ []))) e
 
--- in a list with a place for each
-pub stored : (f : ℕ → ℕ) (n : ℕ) (numbers : List ℕ) → length numbers ≡ n → turns (λ j l. set l j (f j)) 0 n numbers ≡ map f (range 0 n)
-stored f n numbers e = stored_from f n 0 [] numbers refl (omega arith) ∙ (ap (λ l. map f (range 0 n) ++ l) (drop_whole n numbers e) ∙ append-nil (map f (range 0 n)))
-  where
-    drop_whole : (n : ℕ) (l : List ℕ) → length l ≡ n → drop n l ≡ []
-    drop_whole n l e = let d = length-drop n l in nil_from_length (drop n l) (omega arith)
+-- the first so many are those of a function
+pub number_stored : (f : ℕ → ℕ) (items : List ℕ) (i x n : ℕ) → length items ≡ n → i < n → x ≡ f i → take i items ≡ map f (range 0 i) → take (i + 1) (set items i x) ≡ map f (range 0 (i + 1))
+number_stored f items i x n l h e t =
+    let z : i ≡ 0 + i = omega arith in
+    let s : suc i ≡ i + 1 = omega arith in
+    take_more_set items i x (omega arith)
+    ∙ ((λ j. t j ++ ((e ∙ ap f z) j ∷ [])) ∙ (sym (map_both f (range 0 i) ((0 + i) ∷ [])) ∙ (ap (map f) (sym (range_last 0 i)) ∙ ap (λ (k : ℕ). map f (range 0 k)) s)))
+
+pub numbers_all : (f : ℕ → ℕ) (items : List ℕ) (i n : ℕ) → length items ≡ n → i ≡ n → take i items ≡ map f (range 0 i) → items ≡ map f (range 0 n)
+numbers_all f items i n l e t = sym (take_all n items (omega arith)) ∙ rw e at t
 
 -- two lists, one lent behind the other: the first so many are both
 pub both_taken : (f g : ℕ → ℕ) (n k count : ℕ) (numbers : List ℕ) {a b : List ℕ} → count ≡ n + k → a ≡ map f (range 0 n) → b ≡ map g (range 0 k) →
@@ -311,30 +307,30 @@ module _ (first second buffer : List ℕ) where
   refused (Err t) e f = merge_done (ap (λ (x : MergeError). Err x) e ∙ sym f) refl
 
   -- sums and layout, of the first and then of the second,
-  pub first_unlaid : {r : LoadError} {a : Result ℕ MergeError} → layout_answer first ≡ Err r → IsErrAnd a (λ t. t ≡ merge_error r) → (a ≡ merge_answer first second buffer) × (buffer ≡ merge_buffer first second buffer)
+  pub first_unlaid : {r : LoadError} {a : Result ℕ MergeError} → layout_answer first ≡ Err r → IsErrAnd a (λ t. t ≡ Load r) → (a ≡ merge_answer first second buffer) × (buffer ≡ merge_buffer first second buffer)
   unfolding merge_answer
   first_unlaid h e = refused _ e (rw h refl)
 
-  pub second_unlaid : {blocks wires : ℕ} → Laid first blocks wires → {r : LoadError} {a : Result ℕ MergeError} → layout_answer second ≡ Err r → IsErrAnd a (λ t. t ≡ merge_error r) →
+  pub second_unlaid : {blocks wires : ℕ} → Laid first blocks wires → {r : LoadError} {a : Result ℕ MergeError} → layout_answer second ≡ Err r → IsErrAnd a (λ t. t ≡ Load r) →
       (a ≡ merge_answer first second buffer) × (buffer ≡ merge_buffer first second buffer)
   unfolding merge_answer
   second_unlaid l h e = let x = layout_right l in refused _ e (rw (x, h) refl)
 
   module _ {blocks wires blocks₂ wires₂ : ℕ} (l : BothLaid first second blocks wires blocks₂ wires₂) where
     -- the loads of the first, the second and the result, and writing
-    pub first_unloaded : {r : LoadError} {a : Result ℕ MergeError} → Err r ≡ load_answer One first → IsErrAnd a (λ t. t ≡ merge_error r) →
+    pub first_unloaded : {r : LoadError} {a : Result ℕ MergeError} → Err r ≡ load_answer One first → IsErrAnd a (λ t. t ≡ Load r) →
         (a ≡ merge_answer first second buffer) × (buffer ≡ merge_buffer first second buffer)
     unfolding merge_answer
     first_unloaded h e = let x = layout_right l.one in let y = layout_right l.two in refused _ e (rw (x, y, ← h) refl)
 
     module _ (one : Ok tt ≡ load_answer One first) where
-      pub second_unloaded : {r : LoadError} {a : Result ℕ MergeError} → Err r ≡ load_answer One second → IsErrAnd a (λ t. t ≡ merge_error r) →
+      pub second_unloaded : {r : LoadError} {a : Result ℕ MergeError} → Err r ≡ load_answer One second → IsErrAnd a (λ t. t ≡ Load r) →
           (a ≡ merge_answer first second buffer) × (buffer ≡ merge_buffer first second buffer)
       unfolding merge_answer
       second_unloaded h e = let x = layout_right l.one in let y = layout_right l.two in refused _ e (rw (x, y, ← one, ← h) refl)
 
       module _ (two : Ok tt ≡ load_answer One second) where
-        pub result_unloaded : {r : LoadError} {a : Result ℕ MergeError} → Err r ≡ load_answer One (merged_file first second) → IsErrAnd a (λ t. t ≡ merge_error r) →
+        pub result_unloaded : {r : LoadError} {a : Result ℕ MergeError} → Err r ≡ load_answer One (merged_file first second) → IsErrAnd a (λ t. t ≡ Load r) →
             (a ≡ merge_answer first second buffer) × (buffer ≡ merge_buffer first second buffer)
         unfolding merge_answer
         result_unloaded h e = let x = layout_right l.one in let y = layout_right l.two in refused _ e (rw (x, y, ← one, ← two, ← h) refl)

@@ -1,15 +1,14 @@
 -- Req 12: two files as one. What the result says, what merging answers and leaves in the lent buffer.
 use Rattle.std.specs.Prelude.{cond, List, [], ◌∷◌, ◌++◌, map, ℕ, ◌+◌, leb, length, Result, Ok, Err}
-use Rattle.multi_tables.specs.EndAnswers.{refusal_numbers}
 use Rattle.multiportgraph.specs.Listed.{list_after}
 use Rattle.port_tables.specs.declared.release.Release.TheVariants.{One}
 use Rattle.files.specs.View.{RankWire, View, insert_all}
 use Rattle.files.specs.Layout.{bytes_of, unbytes}
-use Rattle.files.specs.Loading.{is_whole, is_laid, load_answer}
+use Rattle.files.specs.Loading.{is_whole, is_laid, load_answer, load_numbers}
 use Rattle.files.specs.declared.load.LoadError.{LoadError}
 use Rattle.files.specs.declared.load.LoadError.TheVariants as load
 use Rattle.files.specs.declared.merge.MergeError.{MergeError}
-use Rattle.files.specs.declared.merge.MergeError.TheVariants.{BadSums, BadLayout, Refused, BufferShort}
+use Rattle.files.specs.declared.merge.MergeError.TheVariants.{Load, BufferShort}
 
 -- a wire with its ranks raised by so many blocks
 abbrev pub raised : ℕ → RankWire → RankWire
@@ -30,16 +29,10 @@ merged_file first second = bytes_of (merged_view (unbytes first) (unbytes second
 unfoldable pub layout_answer : List ℕ → Result (Unit {0}) LoadError
 layout_answer bytes = cond (is_whole bytes) (cond (is_laid bytes) (Ok tt) (Err load.BadLayout)) (Err load.BadSums)
 
--- what refuses a load, as a merge tells it
-abbrev pub merge_error : LoadError → MergeError
-merge_error load.BadSums = BadSums
-merge_error load.BadLayout = BadLayout
-merge_error (load.Refused r) = Refused r
-
 -- a refusal ends it; else it goes on
 abbrev pub unless_refused : Result (Unit {0}) LoadError → Result ℕ MergeError → Result ℕ MergeError
 unless_refused (Ok _) rest = rest
-unless_refused (Err e) rest = Err (merge_error e)
+unless_refused (Err e) rest = Err (Load e)
 
 -- the length of the result, or 15 if the buffer is shorter
 unfoldable pub result_answer : List ℕ → List ℕ → Result ℕ MergeError
@@ -67,7 +60,5 @@ merge_buffer first second buffer = buffer_if (merge_answer first second buffer) 
 -- 01's numbers of the answer
 abbrev pub merge_numbers : Result ℕ MergeError → List ℕ
 merge_numbers (Ok n) = 0 ∷ n ∷ []
-merge_numbers (Err BadSums) = 16 ∷ []
-merge_numbers (Err BadLayout) = 17 ∷ []
-merge_numbers (Err (Refused r)) = refusal_numbers r
+merge_numbers (Err (Load e)) = load_numbers (Err e)
 merge_numbers (Err BufferShort) = 15 ∷ []

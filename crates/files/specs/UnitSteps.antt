@@ -1,229 +1,262 @@
--- What the functions over units lay: the slots of a unit, its sum, and unit after unit.
-use Rattle.std.specs.Prelude.{◌≡◌, Bool, true, false, ltb, ℕ, zero, suc, ◌+◌, ◌-◌, ◌*◌, ◌%◌, ◌≤◌, ◌<◌, min, get_or, take, drop}
+-- What the functions over units lay: the records of a unit, its sum, and unit after unit.
+use Rattle.std.specs.Prelude.{◌≡◌, Bool, true, false, leb, ℕ, zero, suc, ◌+◌, ◌-◌, ◌*◌, ◌/◌, ◌%◌, ◌≤◌, ◌<◌, min, get_or, take, drop, replicate}
 use Rattle.std.proofs.Math.Path.{refl, sym, ap}
-use Rattle.std.proofs.Common.{◌∙◌, ltb-true, ltb-false, length-take, length-drop, drop_of_length-le, drop-cons, drop-drop, length-take-le, get_or-append-add}
-use mathlib.Core.List.{List, [], ◌++◌, map, flat_map, append_assoc}
+use Rattle.std.proofs.Common.{◌∙◌, leb-true, leb-false, length-drop, drop_of_length-le, drop-cons, length-take-le, get_or-append-add, take_at, drop_at, take_all}
+use mathlib.Core.List.{List, [], ◌∷◌, ◌++◌, map, flat_map, append_assoc, append-nil}
 use native.Mathlib.Omega.{arith}
-use Rattle.std.proofs.Math.ListN.{length, replicate, length-append, get_or-eq_default, get_or-map, get_or-append}
-use Rattle.std.proofs.lemmas.List.{replicate-append-replicate}
-use Rattle.std.proofs.Math.Seq.{sets, length-sets, take-nil}
+use Rattle.std.proofs.Math.ListN.{length, length-append, length-replicate, get_or-append}
+use Rattle.std.proofs.lemmas.List.{nil_from_length}
+use Rattle.std.proofs.Math.Seq.{sets, length-sets}
 use Rattle.std.proofs.lemmas.List.Edits.{sets-eq}
 use Rattle.port_tables.specs.Listing.{length_map}
+use Rattle.multiportgraph.specs.Ends.{map_append}
 use Rattle.multiportgraph.specs.ListScans.{Writing}
-use Rattle.port_tables.specs.Lists.{range}
+use Rattle.multiportgraph.specs.ListSteps.{laid}
 use Rattle.portgraph.specs.Model.{total}
 use Rattle.portgraph.specs.Sums.{total_same}
 use Rattle.port_tables.specs.ResizeLinkSteps.{sets_append}
 use Rattle.files.specs.Layout.{Record, field_bytes, word_bytes, field_at, word_at, record_bytes, unit_records, unit_head, sum_of, unit, units_for, units_from, units_of}
-use Rattle.files.specs.LayoutLaws.{head_length, unit_length, taken_few, units_length}
-use Rattle.files.specs.Forms.{record_of, slot_bytes}
+use Rattle.files.specs.LayoutLaws.{head_length, unit_length}
+use Rattle.files.specs.Forms.{record_of}
 use Rattle.files.specs.ByteSteps.{field_then}
 
--- Slots.
+-- how many units hold so many records
+pub units_counted : (records : ℕ) → records / 63 + min 1 (records % 63) ≡ units_for records
+unfolding units_for
+units_counted records = omega arith
 
-pub slot_length : (numbers : List ℕ) (from i : ℕ) → length (slot_bytes numbers from i) ≡ 8
-unfolding slot_bytes record_bytes field_bytes
-slot_length numbers from i = refl
+-- Records one after the other.
 
-flat_map_eight : (f : ℕ → List ℕ) → ((i : ℕ) → length (f i) ≡ 8) → (i n : ℕ) → length (flat_map f (range i n)) ≡ 8 * n
-unfolding flat_map range
-flat_map_eight f h i zero = refl
-flat_map_eight f h i (suc n) = let a = flat_map_eight f h (suc i) n in let b = length-append (f i) (flat_map f (range (suc i) n)) in let c = h i in omega arith
+abbrev pub bytes_of_records : List ℕ → List ℕ
+bytes_of_records numbers = flat_map record_bytes (map record_of numbers)
 
-pub slots_length : (numbers : List ℕ) (from : ℕ) → length (flat_map (slot_bytes numbers from) (range 0 unit_records)) ≡ 504
-slots_length numbers from = flat_map_eight (slot_bytes numbers from) (slot_length numbers from) 0 unit_records
+record_eight : (x : ℕ) → length (record_bytes (record_of x)) ≡ 8
+unfolding record_bytes field_bytes
+record_eight x = refl
 
--- the record of a slot
-slot_of : (numbers : List ℕ) (from i : ℕ) → slot_bytes numbers from i ≡ record_bytes (get_or (map record_of numbers) (from + i) (record_of 0))
-unfolding slot_bytes
-slot_of numbers from i = ap record_bytes (sym (get_or-map record_of numbers (from + i) 0))
+pub records_eight : (numbers : List ℕ) → length (bytes_of_records numbers) ≡ 8 * length numbers
+unfolding flat_map
+records_eight [] = refl
+records_eight (x ∷ l) = let a = records_eight l in let b = length-append (record_bytes (record_of x)) (bytes_of_records l) in let c = record_eight x in omega arith
 
--- a slot past the last record has zeros
-past_slot : (numbers : List ℕ) (from i : ℕ) → length numbers ≤ from + i → slot_bytes numbers from i ≡ replicate 8 0
-unfolding slot_bytes record_of record_bytes field_bytes
-past_slot numbers from i h = rw (get_or-eq_default numbers 0 {n = from + i} h)
+pub records_begin : (l : List ℕ) (at : ℕ) (numbers : List ℕ) → Writing l at (bytes_of_records numbers) l (at + 8 * 0) (bytes_of_records (drop 0 numbers))
+records_begin l at numbers = let e : at + 8 * 0 ≡ at = omega arith in record { counted = omega arith; same = ap (λ (p : ℕ). sets l p (bytes_of_records numbers)) e; long = refl }
 
--- the slots from the i-th on: the records that are left, then zeros
-slots_from : (numbers : List ℕ) (from i n : ℕ) →
-    flat_map (slot_bytes numbers from) (range i n)
-    ≡ flat_map record_bytes (take n (drop (from + i) (map record_of numbers))) ++ replicate (8 * (n - length (take n (drop (from + i) (map record_of numbers))))) 0
-unfolding flat_map range
-slots_from numbers from i zero = refl
-slots_from numbers from i (suc n) = go (ltb (from + i) (length numbers)) refl (slots_from numbers from (suc i) n)
-  where
-    records : List Record
-    records = map record_of numbers
+module _ (numbers : List ℕ) (i : ℕ) {l₀ l : List ℕ} {at : ℕ} (w : Writing l₀ at (bytes_of_records numbers) l (at + 8 * i) (bytes_of_records (drop i numbers))) where
+  pub record_turn : i < length numbers → {l' : List ℕ} → l' ≡ sets l (at + 8 * i) (record_bytes (record_of (get_or numbers i 0))) → Writing l₀ at (bytes_of_records numbers) l' (at + 8 * (i + 1)) (bytes_of_records (drop (i + 1) numbers))
+  unfolding flat_map
+  record_turn h {l'} e =
+      let s : suc i ≡ i + 1 = omega arith in
+      let u = record_bytes (record_of (get_or numbers i 0)) in
+      let n = record_eight (get_or numbers i 0) in
+      let on : bytes_of_records (drop i numbers) ≡ u ++ bytes_of_records (drop (i + 1) numbers) = ap bytes_of_records (drop-cons numbers i 0 h ∙ ap (λ (k : ℕ). get_or numbers i 0 ∷ drop k numbers) s) in
+      let a = w.counted in
+      let b = ap length on ∙ length-append u (bytes_of_records (drop (i + 1) numbers)) in
+      let q : at + 8 * (i + 1) ≡ at + 8 * i + length u = omega arith in
+      record {
+        counted = omega arith;
+        same =
+            (λ j. sets (e j) (q j) (bytes_of_records (drop (i + 1) numbers)))
+            ∙ (sets_append l (at + 8 * i) u (bytes_of_records (drop (i + 1) numbers)) ∙ (ap (sets l (at + 8 * i)) (sym on) ∙ w.same));
+        long = ap length e ∙ (length-sets l (at + 8 * i) u ∙ w.long);
+      }
 
-    long : length records ≡ length numbers
-    long = length_map record_of numbers
-
-    next : from + suc i ≡ suc (from + i)
-    next = omega arith
-
-    go : (b : Bool) → ltb (from + i) (length numbers) ≡ b →
-        flat_map (slot_bytes numbers from) (range (suc i) n)
-        ≡ flat_map record_bytes (take n (drop (from + suc i) records)) ++ replicate (8 * (n - length (take n (drop (from + suc i) records)))) 0 →
-        slot_bytes numbers from i ++ flat_map (slot_bytes numbers from) (range (suc i) n)
-        ≡ flat_map record_bytes (take (suc n) (drop (from + i) records)) ++ replicate (8 * (suc n - length (take (suc n) (drop (from + i) records)))) 0
-    go true t rest =
-        let h = ltb-true (from + i) (length numbers) t in
-        let l = long in
-        let e = drop-cons records (from + i) (record_of 0) (omega arith) in
-        let same = slot_of numbers from i in
-        let q = ap (λ (k : ℕ). drop k records) next in
-        let later = take n (drop (suc (from + i)) records) in
-        let m : 8 * (suc n - suc (length later)) ≡ 8 * (n - length later) = omega arith in
-        rw (e, m)
-        (rw same
-        (ap (λ (k : List ℕ). record_bytes (get_or records (from + i) (record_of 0)) ++ k) (rest ∙ (λ j. flat_map record_bytes (take n (q j)) ++ replicate (8 * (n - length (take n (q j)))) 0))
-        ∙ sym (append_assoc (record_bytes (get_or records (from + i) (record_of 0))) (flat_map record_bytes later) (replicate (8 * (n - length later)) 0))))
-    go false t rest =
-        let h = ltb-false (from + i) (length numbers) t in
-        let l = long in
-        let e = drop_of_length-le records {i = from + i} (omega arith) in
-        let f = drop_of_length-le records {i = from + suc i} (omega arith) in
-        let a = take-nil {A = Record} n in
-        let same = past_slot numbers from i h in
-        let m : 8 * (suc n - 0) ≡ 8 + 8 * (n - 0) = omega arith in
-        rw (e, m)
-        (rw (← (replicate-append-replicate {A = ℕ} 8 (8 * (n - 0)) 0))
-        (rw same (ap (λ (k : List ℕ). replicate 8 0 ++ k) (rest ∙ (λ j. flat_map record_bytes (take n (f j)) ++ replicate (8 * (n - length (take n (f j)))) 0)) ∙ (λ j. replicate 8 0 ++ (flat_map record_bytes (a j) ++ replicate (8 * (n - length (a j))) 0)))))
+  -- behind the last record the unit is zero
+  pub records_filled : length numbers ≤ i → length numbers ≤ unit_records → at + 504 ≤ length l₀ → {from many : ℕ} {zeros l' : List ℕ} → from ≡ at + 8 * length numbers → many ≡ at + 504 - from →
+      zeros ≡ replicate (length (take many (drop from l))) 0 → l' ≡ take from l ++ (zeros ++ drop many (drop from l)) → l' ≡ sets l₀ at (bytes_of_records numbers ++ replicate (8 * (unit_records - length numbers)) 0)
+  unfolding flat_map
+  records_filled h few room {from} {many} {zeros} {l'} f m z e =
+      let none : bytes_of_records (drop i numbers) ≡ [] = ap bytes_of_records (drop_of_length-le numbers {i = i} h) in
+      let done : l ≡ sets l₀ at (bytes_of_records numbers) = ap (sets l (at + 8 * i)) (sym none) ∙ w.same in
+      let n = records_eight numbers in
+      let v = replicate (8 * (unit_records - length numbers)) 0 in
+      let k = length-replicate {A = ℕ} (8 * (unit_records - length numbers)) 0 in
+      let o = w.long in
+      let d = length-drop from l in
+      let t = length-take-le many (drop from l) (omega arith) in
+      let c : length (take many (drop from l)) ≡ 8 * (unit_records - length numbers) = omega arith in
+      let g = laid l zeros v from many (omega arith) (z ∙ ap (λ (x : ℕ). replicate x 0) c) (omega arith) in
+      let p : from ≡ at + length (bytes_of_records numbers) = omega arith in
+      e ∙ (g ∙ ((λ j. sets (done j) (p j) v) ∙ sets_append l₀ at (bytes_of_records numbers) v))
 
 -- The sum.
 
-pub total_next : (n : ℕ) (f : ℕ → ℕ) → total (n + 1) f ≡ total n f + f n
+total_first : (n : ℕ) (f : ℕ → ℕ) → total (suc n) f ≡ f 0 + total n (λ i. f (suc i))
 unfolding total
-total_next n f = let e : n + 1 ≡ suc n = omega arith in rw e
+total_first zero f = omega arith
+total_first (suc n) f = let a = total_first n f in omega arith
 
-pub total_all : (n sum : ℕ) (f : ℕ → ℕ) → n ≤ 127 → 127 ≤ n → sum ≡ total n f → sum ≡ total 127 f
-total_all n sum f h k e = let q : n ≡ 127 = omega arith in e ∙ ap (λ (m : ℕ). total m f) q
-
--- a byte of what was laid
-laid_byte : (l : List ℕ) (at : ℕ) (v : List ℕ) (k : ℕ) → at + length v ≤ length l → k < length v → get_or (sets l at v) (at + k) 0 ≡ get_or v k 0
-laid_byte l at v k h i =
-    let e = sets-eq v l at h ∙ append_assoc (take at l) v (drop (at + length v) l) in
-    let n = length-take-le at l (omega arith) in
-    ap (λ (x : List ℕ). get_or x (at + k) 0) e
-    ∙ (ap (λ (x : ℕ). get_or (take at l ++ (v ++ drop (at + length v) l)) (x + k) 0) (sym n)
-    ∙ (get_or-append-add (take at l) (v ++ drop (at + length v) l) k 0 ∙ get_or-append v (drop (at + length v) l) 0 k i))
-
-laid_word : (l : List ℕ) (at : ℕ) (v : List ℕ) (k : ℕ) → at + length v ≤ length l → k + 4 ≤ length v → word_at (sets l at v) (at + k) ≡ word_at v k
+word_later : (a b : List ℕ) (i : ℕ) → length a ≡ 4 → word_at (a ++ b) (4 * suc i) ≡ word_at b (4 * i)
 unfolding word_at field_at
-laid_word l at v k h i =
-    let e₁ : at + k + 1 ≡ at + (k + 1) = omega arith in
-    let e₂ : at + k + 2 ≡ at + (k + 2) = omega arith in
-    let e₃ : at + k + 2 + 1 ≡ at + (k + 2 + 1) = omega arith in
-    let a = laid_byte l at v k h (omega arith) in
-    let b = ap (λ (n : ℕ). get_or (sets l at v) n 0) e₁ ∙ laid_byte l at v (k + 1) h (omega arith) in
-    let c = ap (λ (n : ℕ). get_or (sets l at v) n 0) e₂ ∙ laid_byte l at v (k + 2) h (omega arith) in
-    let d = ap (λ (n : ℕ). get_or (sets l at v) n 0) e₃ ∙ laid_byte l at v (k + 2 + 1) h (omega arith) in
-    λ j. a j + 256 * b j + 65536 * (c j + 256 * d j)
+word_later a b i h =
+    let g : (k n : ℕ) → n ≡ length a + k → get_or (a ++ b) n 0 ≡ get_or b k 0 = λ k n e. ap (λ (m : ℕ). get_or (a ++ b) m 0) e ∙ get_or-append-add a b k 0 in
+    let x = g (4 * i) (4 * suc i) (omega arith) in
+    let y = g (4 * i + 1) (4 * suc i + 1) (omega arith) in
+    let z = g (4 * i + 2) (4 * suc i + 2) (omega arith) in
+    let w = g (4 * i + 2 + 1) (4 * suc i + 2 + 1) (omega arith) in
+    λ j. x j + 256 * y j + 65536 * (z j + 256 * w j)
 
--- the sum over what was laid
-laid_sum : (l : List ℕ) (at : ℕ) (v : List ℕ) → at + 508 ≤ length l → length v ≡ 508 → total 127 (λ i. word_at (sets l at v) (at + 4 * i)) % 4294967296 ≡ sum_of v
-unfolding sum_of
-laid_sum l at v h e =
-    ap (λ (n : ℕ). n % 4294967296)
-    (total_same 127 (λ i. word_at (sets l at v) (at + 4 * i)) (λ i. word_at v (4 * i)) (λ i k. laid_word l at v (4 * i) (omega arith) (omega arith)))
+word_first : (a b : List ℕ) → length a ≡ 4 → word_at (a ++ b) 0 ≡ word_at a 0
+unfolding word_at field_at
+word_first a b h =
+    let g : (k : ℕ) → k < 4 → get_or (a ++ b) k 0 ≡ get_or a k 0 = λ k l. get_or-append a b 0 k (omega arith) in
+    let x = g 0 (omega arith) in
+    let y = g (0 + 1) (omega arith) in
+    let z = g (0 + 2) (omega arith) in
+    let w = g (0 + 2 + 1) (omega arith) in
+    λ j. x j + 256 * y j + 65536 * (z j + 256 * w j)
+
+abbrev words_total : List ℕ → ℕ
+words_total l = total (length l / 4) (λ i. word_at l (4 * i))
+
+-- the words that are left, with the sum so far
+pub record Adding (words rest : List ℕ) (sum : ℕ) : Type 0 where
+  pub whole : length rest % 4 ≡ 0
+  pub same : sum + words_total rest ≡ words_total words
+  pub small : sum + length rest / 4 * 4294967295 ≤ 127 * 4294967295
+
+pub adding_begins : {words rest : List ℕ} → length words ≡ 508 → rest ≡ words → Adding words rest 0
+adding_begins h e = rw e (record { whole = omega arith; same = omega arith; small = omega arith })
+
+module _ {words rest : List ℕ} {sum : ℕ} (s : Adding words rest sum) where
+  pub adding_ends : length rest < 4 → length words ≡ 508 → sum % 4294967296 ≡ sum_of words
+  unfolding sum_of total
+  adding_ends h l =
+      let z : length rest / 4 ≡ 0 = omega arith in
+      let n : length words / 4 ≡ 127 = omega arith in
+      let a : words_total rest ≡ 0 = ap (λ (k : ℕ). total k (λ i. word_at rest (4 * i))) z in
+      let b : words_total words ≡ total 127 (λ i. word_at words (4 * i)) = ap (λ (k : ℕ). total k (λ i. word_at words (4 * i))) n in
+      let c = s.same in
+      let d : sum ≡ total 127 (λ i. word_at words (4 * i)) = omega arith in
+      ap (λ (k : ℕ). k % 4294967296) d
+
+  pub adding_on : (word next : List ℕ) → rest ≡ word ++ next → length word ≡ 4 → {x : ℕ} → x ≡ word_at word 0 → x < 4294967296 → Adding words next (sum + x)
+  adding_on word next e n {x} q b =
+      let l = ap length e ∙ length-append word next in
+      let w = s.whole in
+      let k : length rest / 4 ≡ suc (length next / 4) = omega arith in
+      let t : words_total rest ≡ word_at word 0 + words_total next =
+      (λ j. total (k j) (λ i. word_at (e j) (4 * i)))
+      ∙ (total_first (length next / 4) (λ i. word_at (word ++ next) (4 * i))
+      ∙ (λ j. word_first word next n j + total_same (length next / 4) (λ i. word_at (word ++ next) (4 * suc i)) (λ i. word_at next (4 * i)) (λ i h. word_later word next i n) j)) in
+      let a = s.same in
+      let c = s.small in
+      record { whole = omega arith; same = omega arith; small = omega arith }
 
 -- A unit.
 
-module _ (numbers : List ℕ) (from : ℕ) (h : from ≤ length numbers) where
-  abbrev rest : List Record
-  rest = take unit_records (drop from (map record_of numbers))
+-- a part that was laid is read back
+laid_back : (l : List ℕ) (at : ℕ) (v : List ℕ) (n : ℕ) → at + length v ≤ length l → n ≡ length v → take n (drop at (sets l at v)) ≡ v
+laid_back l at v n h e =
+    let k = length-take-le at l (omega arith) in
+    let f = sets-eq v l at h ∙ append_assoc (take at l) v (drop (at + length v) l) in
+    ap (λ (x : List ℕ). take n (drop at x)) f ∙ (ap (take n) (drop_at (take at l) (v ++ drop (at + length v) l) at k) ∙ take_at v (drop (at + length v) l) n (sym e))
 
-  rest_length : min unit_records (length numbers - from) ≡ length rest
-  rest_length = let a = length-take unit_records (drop from (map record_of numbers)) in let b = length-drop from (map record_of numbers) in let c = length_map record_of numbers in omega arith
+module _ (numbers : List ℕ) (few : length numbers ≤ unit_records) where
+  abbrev records : List Record
+  records = map record_of numbers
 
-  rest_few : length rest ≤ unit_records
-  rest_few = taken_few (drop from (map record_of numbers))
+  many : length records ≡ length numbers
+  many = length_map record_of numbers
 
-  -- kind, count and slots are the head
-  head_laid : (l l₁ l₂ l₃ : List ℕ) (at kind count : ℕ) → count ≡ min unit_records (length numbers - from) → l₁ ≡ sets l at (field_bytes kind) → l₂ ≡ sets l₁ (at + 2) (field_bytes count)
-      → l₃ ≡ sets l₂ (at + 4) (flat_map (slot_bytes numbers from) (range 0 unit_records)) → l₃ ≡ sets l at (unit_head kind rest)
+  -- kind, count and records are the head
+  head_laid : (l l₁ l₂ l₃ : List ℕ) (at kind : ℕ) → l₁ ≡ sets l at (field_bytes kind) → l₂ ≡ sets l₁ (at + 2) (field_bytes (length numbers))
+      → l₃ ≡ sets l₂ (at + 4) (bytes_of_records numbers ++ replicate (8 * (unit_records - length numbers)) 0) → l₃ ≡ sets l at (unit_head kind records)
   unfolding unit_head
-  head_laid l l₁ l₂ l₃ at kind count e e₁ e₂ e₃ =
+  head_laid l l₁ l₂ l₃ at kind e₁ e₂ e₃ =
       let n : at + 4 ≡ at + 2 + 2 = omega arith in
-      let z : from + 0 ≡ from = omega arith in
-      let slots = flat_map (slot_bytes numbers from) (range 0 unit_records) in
-      let s : slots ≡ flat_map record_bytes rest ++ replicate (8 * (unit_records - length rest)) 0 =
-      slots_from numbers from 0 unit_records ∙ ap (λ (k : ℕ). flat_map record_bytes (take unit_records (drop k (map record_of numbers))) ++ replicate (8 * (unit_records - length (take unit_records (drop k (map record_of numbers))))) 0) z in
-      let q₂ : l₃ ≡ sets l₁ (at + 2) (field_bytes count ++ slots) = e₃ ∙ rw (n, e₂) (field_then l₁ (at + 2) count slots) in
-      let q₁ : l₃ ≡ sets l at (field_bytes kind ++ (field_bytes count ++ slots)) = q₂ ∙ rw e₁ (field_then l at kind (field_bytes count ++ slots)) in
-      q₁ ∙ (λ j. sets l at (field_bytes kind ++ (field_bytes ((e ∙ rest_length) j) ++ s j)))
+      let rest = bytes_of_records numbers ++ replicate (8 * (unit_records - length numbers)) 0 in
+      let q₂ : l₃ ≡ sets l₁ (at + 2) (field_bytes (length numbers) ++ rest) = e₃ ∙ rw (n, e₂) (field_then l₁ (at + 2) (length numbers) rest) in
+      let q₁ : l₃ ≡ sets l at (field_bytes kind ++ (field_bytes (length numbers) ++ rest)) = q₂ ∙ rw e₁ (field_then l at kind (field_bytes (length numbers) ++ rest)) in
+      q₁ ∙ (λ j. sets l at (field_bytes kind ++ (field_bytes (sym many j) ++ (bytes_of_records numbers ++ replicate (8 * (unit_records - sym many j)) 0))))
 
   -- and with the sum of its words the unit
-  pub unit_laid : (l l₁ l₂ l₃ l₄ : List ℕ) (at kind count sum : ℕ) → at + 512 ≤ length l → count ≡ min unit_records (length numbers - from) → l₁ ≡ sets l at (field_bytes kind)
-      → l₂ ≡ sets l₁ (at + 2) (field_bytes count) → l₃ ≡ sets l₂ (at + 4) (flat_map (slot_bytes numbers from) (range 0 unit_records))
-      → sum ≡ total 127 (λ i. word_at l₃ (at + 4 * i)) % 4294967296 → l₄ ≡ sets l₃ (at + 508) (word_bytes sum) → l₄ ≡ sets l at (unit kind rest)
+  pub unit_laid : (l l₁ l₂ l₃ l₄ : List ℕ) (at kind end count sum : ℕ) → at + 512 ≤ length l → l₁ ≡ sets l at (field_bytes kind) → l₂ ≡ sets l₁ (at + 2) (field_bytes (length numbers))
+      → l₃ ≡ sets l₂ (at + 4) (bytes_of_records numbers ++ replicate (8 * (unit_records - length numbers)) 0) → end ≡ at + 508 → count ≡ end - at
+      → sum ≡ sum_of (take count (drop at l₃)) → l₄ ≡ sets l₃ end (word_bytes sum) → l₄ ≡ sets l at (unit kind records)
   unfolding unit
-  unit_laid l l₁ l₂ l₃ l₄ at kind count sum room e e₁ e₂ e₃ e₄ e₅ =
-      let head = head_laid l l₁ l₂ l₃ at kind count e e₁ e₂ e₃ in
-      let n = head_length kind rest rest_few in
-      let s : sum ≡ sum_of (unit_head kind rest) = e₄ ∙ (ap (λ (x : List ℕ). total 127 (λ i. word_at x (at + 4 * i)) % 4294967296) head ∙ laid_sum l at (unit_head kind rest) (omega arith) n) in
-      e₅ ∙ ((λ j. sets (head j) (at + sym n j) (word_bytes (s j))) ∙ sets_append l at (unit_head kind rest) (word_bytes (sum_of (unit_head kind rest))))
+  unit_laid l l₁ l₂ l₃ l₄ at kind end count sum room e₁ e₂ e₃ p c e₄ e₅ =
+      let head = head_laid l l₁ l₂ l₃ at kind e₁ e₂ e₃ in
+      let m = many in
+      let n = head_length kind records (omega arith) in
+      let s : sum ≡ sum_of (unit_head kind records) = e₄ ∙ ap sum_of (ap (λ (x : List ℕ). take count (drop at x)) head ∙ laid_back l at (unit_head kind records) count (omega arith) (omega arith)) in
+      let q : end ≡ at + length (unit_head kind records) = omega arith in
+      e₅ ∙ ((λ j. sets (head j) (q j) (word_bytes (s j))) ∙ sets_append l at (unit_head kind records) (word_bytes (sum_of (unit_head kind records))))
 
 -- Unit after unit.
 
--- so many units are left when so many records are
-units_left : (n from : ℕ) → from < n → units_for (n - from) ≡ suc (units_for (n - (from + unit_records)))
-unfolding units_for
-units_left n from h = omega arith
+-- the records of the first unit, and those behind them
+first_unit : (records part next : List Record) → records ≡ part ++ next → length part ≡ min unit_records (length records) → (take unit_records records ≡ part) × (drop unit_records records ≡ next)
+first_unit records part next e n = go (leb unit_records (length records)) refl
+  where
+    go : (b : Bool) → leb unit_records (length records) ≡ b → (take unit_records records ≡ part) × (drop unit_records records ≡ next)
+    go true t =
+        let h = leb-true unit_records (length records) t in
+        let k : length part ≡ unit_records = omega arith in
+        (ap (take unit_records) e ∙ take_at part next unit_records k, ap (drop unit_records) e ∙ drop_at part next unit_records k)
+    go false t =
+        let h = leb-false unit_records (length records) t in
+        let l = ap length e ∙ length-append part next in
+        let z : next ≡ [] = nil_from_length next (omega arith) in
+        let a : records ≡ part = e ∙ (ap (λ (x : List Record). part ++ x) z ∙ append-nil part) in
+        (take_all unit_records records (omega arith) ∙ a, drop_of_length-le records {i = unit_records} (omega arith) ∙ sym z)
 
-none_left : (n from : ℕ) → n ≤ from → units_for (n - from) ≡ 0
-unfolding units_for
-none_left n from h = omega arith
+module _ (kind : ℕ) where
+  abbrev pub units_said : List ℕ → List ℕ
+  units_said numbers = units_of kind (map record_of numbers)
 
-module _ (kind : ℕ) (records : List Record) where
-  -- the units from a record on
-  abbrev pub units_after : ℕ → List ℕ
-  units_after from = units_from kind (units_for (length records - from)) (drop from records)
+  units_on : (rest part next : List ℕ) → 0 < length rest → rest ≡ part ++ next → length part ≡ min unit_records (length rest) → units_said rest ≡ unit kind (map record_of part) ++ units_said next
+  unfolding units_of units_from units_for
+  units_on rest part next some e n =
+      let a = length_map record_of rest in
+      let b = length_map record_of part in
+      let c = length_map record_of next in
+      let l = ap length e ∙ length-append part next in
+      let m : map record_of rest ≡ map record_of part ++ map record_of next = ap (map record_of) e ∙ map_append record_of part next in
+      let f = first_unit (map record_of rest) (map record_of part) (map record_of next) m (omega arith) in
+      let k : (length (map record_of rest) + 62) / 63 ≡ suc ((length (map record_of next) + 62) / 63) = omega arith in
+      ap (λ (x : ℕ). units_from kind x (map record_of rest)) k ∙ (λ j. unit kind (f.0 j) ++ units_from kind ((length (map record_of next) + 62) / 63) (f.1 j))
 
-  units_on : (from : ℕ) → from < length records → units_after from ≡ unit kind (take unit_records (drop from records)) ++ units_after (from + unit_records)
-  unfolding units_from
-  units_on from h =
-      rw (units_left (length records) from h)
-      (ap (λ (l : List Record). unit kind (take unit_records (drop from records)) ++ units_from kind (units_for (length records - (from + unit_records))) l) (drop-drop unit_records from records))
+  -- the units of the records that are left amount to all
+  pub record Laying (numbers rest l₀ l : List ℕ) (at p : ℕ) : Type 0 where
+    pub counted : p + 512 * units_for (length rest) ≡ at + 512 * units_for (length numbers)
+    pub same : sets l p (units_said rest) ≡ sets l₀ at (units_said numbers)
+    pub long : length l ≡ length l₀
 
-  pub units_begun : (l : List ℕ) (at : ℕ) → Writing l at (units_of kind records) l at (units_after 0)
-  unfolding units_of
-  units_begun l at = let e : length records - 0 ≡ length records = omega arith in rw e record { counted = refl; same = refl; long = refl }
+  pub laying_begins : (numbers : List ℕ) {rest : List ℕ} (l : List ℕ) (at : ℕ) {n : ℕ} → rest ≡ numbers → n ≡ 0 → Laying numbers rest l l at (at + 512 * n)
+  laying_begins numbers l at e z =
+      let p : at + 512 * 0 ≡ at = omega arith in
+      rw (e, z) (record { counted = omega arith; same = ap (λ (k : ℕ). sets l k (units_said numbers)) p; long = refl })
 
-  module _ {l₀ l : List ℕ} {at p from : ℕ} (w : Writing l₀ at (units_of kind records) l p (units_after from)) where
-    module _ (h : from < length records) where
-      few : length (take unit_records (drop from records)) ≤ unit_records
-      few = taken_few (drop from records)
+  module _ {numbers rest l₀ l : List ℕ} {at p : ℕ} (w : Laying numbers rest l₀ l at p) where
+    pub laying_ends : length rest ≡ 0 → l ≡ sets l₀ at (units_said numbers)
+    unfolding units_of units_from units_for
+    laying_ends h =
+        let a = length_map record_of rest in
+        let z : (length (map record_of rest) + 62) / 63 ≡ 0 = omega arith in
+        let e : units_said rest ≡ [] = ap (λ (k : ℕ). units_from kind k (map record_of rest)) z in
+        ap (sets l p) (sym e) ∙ w.same
 
-      pub unit_fits_lem : at + 512 * units_for (length records) ≤ length l₀ → p + 512 ≤ length l
-      unfolding units_of
-      unit_fits_lem k =
+    module _ (part next : List ℕ) (some : 0 < length rest) (e : rest ≡ part ++ next) (n : length part ≡ min unit_records (length rest)) where
+      pub part_few : length part ≤ unit_records
+      part_few = omega arith
+
+      pub unit_room : at + 512 * units_for (length numbers) ≤ length l₀ → p + 512 ≤ length l
+      unfolding units_for
+      unit_room r = let a = w.counted in let b = w.long in omega arith
+
+      pub unit_turn : {l' : List ℕ} {here there : ℕ} → here ≡ p → there ≡ p + 512 → l' ≡ sets l here (unit kind (map record_of part)) → Laying numbers next l₀ l' at there
+      unfolding units_for
+      unit_turn {l'} {here} {there} h t laid_here =
+          let g : l' ≡ sets l p (unit kind (map record_of part)) = rw h at laid_here in
+          let u = unit kind (map record_of part) in
+          let k = length_map record_of part in
+          let c : length u ≡ 512 = unit_length kind (map record_of part) (omega arith) in
+          let m = ap length e ∙ length-append part next in
           let a = w.counted in
-          let b = ap length (units_on from h) ∙ length-append (unit kind (take unit_records (drop from records))) (units_after (from + unit_records)) in
-          let c = unit_length kind (take unit_records (drop from records)) few in
-          let d = units_length kind (units_for (length records)) records in
-          let e = w.long in
-          omega arith
-
-      pub unit_written : {l' : List ℕ} → l' ≡ sets l p (unit kind (take unit_records (drop from records))) → Writing l₀ at (units_of kind records) l' (p + 512) (units_after (from + unit_records))
-      unit_written {l'} e =
-          let u = unit kind (take unit_records (drop from records)) in
-          let a = w.counted in
-          let b = ap length (units_on from h) ∙ length-append u (units_after (from + unit_records)) in
-          let c = unit_length kind (take unit_records (drop from records)) few in
-          let s : sets l' (p + 512) (units_after (from + unit_records)) ≡ sets l p (u ++ units_after (from + unit_records)) =
-          (λ j. sets (e j) (p + sym c j) (units_after (from + unit_records))) ∙ sets_append l p u (units_after (from + unit_records)) in
+          let q : there ≡ p + length u = omega arith in
           record {
             counted = omega arith;
-            same = s ∙ (ap (sets l p) (sym (units_on from h)) ∙ w.same);
-            long = ap length e ∙ (length-sets l p u ∙ w.long);
+            same = (λ j. sets (g j) (q j) (units_said next)) ∙ (sets_append l p u (units_said next) ∙ (ap (sets l p) (sym (units_on rest part next some e n)) ∙ w.same));
+            long = ap length g ∙ (length-sets l p u ∙ w.long);
           }
-
-    pub units_written : length records ≤ from → (p ≡ at + 512 * units_for (length records)) × (l ≡ sets l₀ at (units_of kind records))
-    unfolding units_of units_from
-    units_written h =
-        let n : units_for (length records - from) ≡ 0 = none_left (length records) from h in
-        let e : units_after from ≡ [] = ap (λ (k : ℕ). units_from kind k (drop from records)) n in
-        let a = w.counted in
-        let b = ap length e in
-        let d = units_length kind (units_for (length records)) records in
-        (omega arith, ap (sets l p) (sym e) ∙ w.same)

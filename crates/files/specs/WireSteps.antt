@@ -10,7 +10,7 @@ use Rattle.std.proofs.Math.ListN.{drop_of_length-le}
 use borrow.Author.Tests.{ltb-true, ltb-false, lt-ltb, le-ltb, le-leb, lt-leb}
 use Rattle.port_tables.specs.Listing.{map_member}
 use Rattle.files.specs.View.{BlockPorts, RankWire, View}
-use Rattle.files.specs.Layout.{field_at, units_for, block_of, wire_of, wire_record, record_at, unbytes}
+use Rattle.files.specs.Layout.{Record, field_at, units_for, block_of, wire_of, wire_record, record_at, unbytes}
 use Rattle.files.specs.LayoutLaws.{FieldsFit}
 use Rattle.files.specs.Loading.{unit_list, order_right, ranks_right, block_at, positions_right, units_right, view_right}
 use Rattle.files.specs.LaidLaws.{block_placed, wire_placed, all_units}
@@ -21,10 +21,6 @@ use Rattle.files.specs.LoadForms.{place_of, record_in, no_wire, BlocksRead, Wire
 use Rattle.files.specs.CheckSteps.{and_three}
 
 -- Records where they stand.
-
-pub number_read : (bytes : List ℕ) (at a b c d : ℕ) → a ≡ field_at bytes at → b ≡ field_at bytes (at + 2) → c ≡ field_at bytes (at + 4) → d ≡ field_at bytes (at + 6) →
-    number_of (record { a = a; b = b; c = c; d = d }) ≡ number_of (record_in bytes at)
-number_read bytes at a b c d e f g h = λ j. number_of (record { a = e j; b = f j; c = g j; d = h j })
 
 record_there : (bytes : List ℕ) (at : ℕ) → record_at (drop at bytes) ≡ record_in bytes at
 unfolding record_at field_at
@@ -69,40 +65,37 @@ module _ (bytes : List ℕ) (right : units_right (unit_list bytes) ≡ true) whe
 
 -- A wire.
 
-module _ (bytes : List ℕ) (blocks at source target : ℕ) (read : BlocksRead bytes blocks) (isSource : source ≡ field_at bytes at) (isTarget : target ≡ field_at bytes (at + 4)) where
-  abbrev wire : RankWire
-  wire = wire_of (record_in bytes at)
-
+module _ (bytes : List ℕ) (blocks : ℕ) (r : Record) (read : BlocksRead bytes blocks) where
   abbrev all : List BlockPorts
   all = (unbytes bytes).blocks
 
-  pub source_wrong : blocks ≤ source → false ≡ wire_fits all wire
+  pub source_wrong : blocks ≤ r.a → false ≡ wire_fits all (wire_of r)
   unfolding wire_fits ranks_right
-  source_wrong h = let m = read.many in rw (le-ltb (field_at bytes at) (length all) (omega arith))
+  source_wrong h = let m = read.many in rw (le-ltb r.a (length all) (omega arith))
 
-  pub target_wrong : blocks ≤ target → false ≡ wire_fits all wire
+  pub target_wrong : blocks ≤ r.c → false ≡ wire_fits all (wire_of r)
   unfolding wire_fits ranks_right
-  target_wrong h = let m = read.many in rw (le-ltb (field_at bytes (at + 4)) (length all) (omega arith), and-false (ltb (field_at bytes at) (length all)))
+  target_wrong h = let m = read.many in rw (le-ltb r.c (length all) (omega arith), and-false (ltb r.a (length all)))
 
-  module _ (below : source < blocks) (under : target < blocks) (outputs inputs : ℕ) (areOutputs : outputs ≡ field_at bytes (place_of 0 source + 2)) (areInputs : inputs ≡ field_at bytes (place_of 0 target)) where
-    outputs_are : outputs ≡ (block_at all (field_at bytes at)).outgoing
-    outputs_are = areOutputs ∙ (sym (ap (λ (b : BlockPorts). b.outgoing) (read.each source below)) ∙ ap (λ (r : ℕ). (block_at all r).outgoing) isSource)
+  module _ (below : r.a < blocks) (under : r.c < blocks) (from to : Record) (isFrom : from ≡ record_in bytes (place_of 0 r.a)) (isTo : to ≡ record_in bytes (place_of 0 r.c)) where
+    outputs_are : from.b ≡ (block_at all r.a).outgoing
+    outputs_are = ap (λ (x : Record). x.b) isFrom ∙ sym (ap (λ (b : BlockPorts). b.outgoing) (read.each r.a below))
 
-    inputs_are : inputs ≡ (block_at all (field_at bytes (at + 4))).incoming
-    inputs_are = areInputs ∙ (sym (ap (λ (b : BlockPorts). b.incoming) (read.each target under)) ∙ ap (λ (r : ℕ). (block_at all r).incoming) isTarget)
+    inputs_are : to.a ≡ (block_at all r.c).incoming
+    inputs_are = ap (λ (x : Record). x.a) isTo ∙ sym (ap (λ (b : BlockPorts). b.incoming) (read.each r.c under))
 
-    wire_tested : (s t : Bool) → s ≡ ltb (field_at bytes (at + 2)) outputs → t ≡ ltb (field_at bytes (at + 6)) inputs → (s && t) ≡ wire_fits all wire
+    wire_tested : (s t : Bool) → s ≡ ltb r.b from.b → t ≡ ltb r.d to.a → (s && t) ≡ wire_fits all (wire_of r)
     unfolding wire_fits ranks_right positions_right
     wire_tested s t e f =
         let m = read.many in
-        rw (lt-ltb (field_at bytes at) (length all) (omega arith), lt-ltb (field_at bytes (at + 4)) (length all) (omega arith))
-        (λ j. (e ∙ ap (ltb (field_at bytes (at + 2))) outputs_are) j && (f ∙ ap (ltb (field_at bytes (at + 6))) inputs_are) j)
+        rw (lt-ltb r.a (length all) (omega arith), lt-ltb r.c (length all) (omega arith))
+        (λ j. (e ∙ ap (ltb r.b) outputs_are) j && (f ∙ ap (ltb r.d) inputs_are) j)
 
-    pub output_wrong : (output : ℕ) → output ≡ field_at bytes (at + 2) → outputs ≤ output → false ≡ wire_fits all wire
-    output_wrong output e h = wire_tested false _ (sym (le-ltb (field_at bytes (at + 2)) outputs (omega arith))) refl
+    pub output_wrong : from.b ≤ r.b → false ≡ wire_fits all (wire_of r)
+    output_wrong h = wire_tested false _ (sym (le-ltb r.b from.b h)) refl
 
-    pub input_tested : (output input : ℕ) → output ≡ field_at bytes (at + 2) → input ≡ field_at bytes (at + 6) → output < outputs → ltb input inputs ≡ wire_fits all wire
-    input_tested output input e f h = wire_tested true (ltb input inputs) (sym (lt-ltb (field_at bytes (at + 2)) outputs (omega arith))) (ap (λ (n : ℕ). ltb n inputs) f)
+    pub input_tested : r.b < from.b → ltb r.d to.a ≡ wire_fits all (wire_of r)
+    input_tested h = wire_tested true (ltb r.d to.a) (sym (lt-ltb r.b from.b h)) refl
 
 -- Wires one after the other.
 
@@ -168,15 +161,15 @@ module _ {bytes : List ℕ} {u n before i : ℕ} (r : WiresRead bytes u n) (w : 
     pub wire_room : place_of u i + 8 ≤ length bytes
     wire_room = r.there i h
 
-    module _ {at number : ℕ} (is_at : at ≡ place_of u i) (is_number : number ≡ number_of (record_in bytes at)) where
+    module _ {at number : ℕ} {one : Record} (is_at : at ≡ place_of u i) (is_one : one ≡ record_in bytes at) (is_number : number ≡ number_of one) where
       abbrev next : RankWire
-      next = wire_of (record_in bytes at)
+      next = wire_of one
 
       rest_on : drop i (unbytes bytes).wires ≡ next ∷ drop (suc i) (unbytes bytes).wires
       rest_on =
           let m = r.many in
           drop-cons (unbytes bytes).wires i no_wire (omega arith)
-          ∙ ap (λ (v : RankWire). v ∷ drop (suc i) (unbytes bytes).wires) (r.each i h ∙ ap (λ (p : ℕ). wire_of (record_in bytes p)) (sym is_at))
+          ∙ ap (λ (v : RankWire). v ∷ drop (suc i) (unbytes bytes).wires) (r.each i h ∙ (ap (λ (p : ℕ). wire_of (record_in bytes p)) (sym is_at) ∙ ap wire_of (sym is_one)))
 
       fit_on : wires_fit (unbytes bytes).blocks before (drop i (unbytes bytes).wires)
           ≡ (leb before number && (wire_fits (unbytes bytes).blocks next && wires_fit (unbytes bytes).blocks number (drop (suc i) (unbytes bytes).wires)))

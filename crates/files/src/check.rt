@@ -3,20 +3,21 @@ ghost use Rattle.std.specs.List.{list_all};
 ghost use Rattle.std.specs.Prelude.{◌≡◌, false, ◌-◌, ◌/◌, ◌%◌, ◌≤◌, eqb, length, take, drop, MatchOption};
 ghost use Rattle.files.specs.Layout.{records_at};
 ghost use Rattle.files.specs.Loading.{sum_holds, is_whole, unit_list, block_zeros, units_right};
-ghost use Rattle.files.specs.LoadForms.{kind_fits, count_fits, next_kind, unit_fits, ShapeIs};
+ghost use Rattle.files.specs.LoadForms.{kind_fits, count_fits, unit_fits, ShapeIs};
 
 use crate::bytes::{field_at, word_at};
-use crate::units::sum_words;
+use crate::units::{UNIT_RECORDS, sum_words};
 
 // The sum of a unit is that of the words before it.
 fn sum_holds(unit: &[u8]) -> bool
     requires { length unit.now ≡ 512 }
     ensures { result ≡ sum_holds unit.now }
 {
-    word_at(unit, 508) == sum_words(unit, 0)
+    word_at(unit, 508) == sum_words(&unit[..508])
 }
 
-// The length is that of whole units, and all sums are right.
+// The length is that of whole units, and all sums are right. Stays a loop, as the zeros below: `all` over chunks tells of the runs of its closure, out of which the lists that the
+// definitions speak of would have to be made anew.
 pub(crate) fn is_whole(file: &[u8]) -> bool
     ensures { result ≡ is_whole file.now }
 {
@@ -32,29 +33,18 @@ pub(crate) fn is_whole(file: &[u8]) -> bool
 }
 
 // A kind, and that of the next unit, 0 for none: blocks, then wires.
-fn kind_right(kind: u64, next: u64) -> bool
+fn kind_right(kind: u16, next: u16) -> bool
     ensures { result ≡ kind_fits kind next }
 {
-    if kind == 1 {
-        return true;
-    }
-    if next == 1 {
-        return false;
-    }
-    kind == 2
+    kind == 1 || (kind == 2 && next != 1)
 }
 
 // A count: 1 to 63, and 63 where the next unit is of the same kind.
-fn count_right(kind: u64, next: u64, count: u64) -> bool
+fn count_right(kind: u16, next: u16, count: u16) -> bool
     ensures { result ≡ count_fits kind next count }
 {
-    if count == 0 {
-        return false;
-    }
-    if next == kind {
-        return count == 63;
-    }
-    count <= 63
+    let count = count as usize;
+    0 < count && count <= UNIT_RECORDS && (next != kind || count == UNIT_RECORDS)
 }
 
 // The bytes from one on up to the sum are zero.
@@ -79,7 +69,7 @@ fn block_zeros(records: &[u8]) -> bool
 }
 
 // What a unit says by itself, before one of a kind, 0 for none: kind, count and zeros.
-fn unit_right(unit: &[u8], next: u64) -> bool
+fn unit_right(unit: &[u8], next: u16) -> bool
     requires { length unit.now ≡ 512 }
     ensures { result ≡ unit_fits unit.now next }
 {
@@ -101,44 +91,33 @@ fn unit_right(unit: &[u8], next: u64) -> bool
     true
 }
 
-// The kind of the unit after the first; 0 for none. Stays a number, as the file's own kinds are: units of any kind are held against it.
-fn next_kind(rest: &[u8]) -> u64
-    requires { (length rest.now % 512 ≡ 0) × (512 ≤ length rest.now) }
-    ensures { result ≡ next_kind (unit_list (drop 512 rest.now)) }
-{
-    if rest.len() < 1024 {
-        return 0;
-    }
-    field_at(rest, 512)
-}
-
 // How many blocks and wires a file has.
 #[derive(Clone, Copy)]
-pub(crate) struct Shape {
+pub struct Shape {
     pub blocks: usize,
     pub wires: usize,
 }
 
-// The shape of a file whose units are all right by themselves. Stays a while over what is left: each unit is held against the kind of the next one.
+// The shape of a file whose units are all right by themselves. From the last unit to the first: each is held against the kind of the one behind it, 0 for none. This stays a
+// number, as the file's own kinds are: units of any kind are held against it.
 pub(crate) fn shape_of(file: &[u8]) -> Option<Shape>
     requires { length file.now % 512 ≡ 0 }
     ensures { MatchOption result (units_right (unit_list file.now) ≡ false) (λ s. ShapeIs file.now s.blocks s.wires) }
 {
-    let mut rest = file;
     let mut blocks: usize = 0;
     let mut wires: usize = 0;
-    while 0 < rest.len() {
-        let next = next_kind(rest);
-        if !unit_right(&rest[..512], next) {
+    let mut next: u16 = 0;
+    for unit in file.rchunks_exact(512) {
+        if !unit_right(unit, next) {
             return None;
         }
-        let count = field_at(rest, 2) as usize;
-        if field_at(rest, 0) == 1 {
+        let count = field_at(unit, 2) as usize;
+        next = field_at(unit, 0);
+        if next == 1 {
             blocks += count;
         } else {
             wires += count;
         }
-        rest = &rest[512..];
     }
     Some(Shape {
         blocks: blocks,

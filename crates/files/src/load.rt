@@ -64,13 +64,11 @@ pub(crate) fn laid(bytes: &[u8]) -> Result<File, LoadError>
     if !is_whole(bytes) {
         return Err(LoadError::BadSums);
     }
-    let Some(shape) = shape_of(bytes) else {
-        return Err(LoadError::BadLayout);
-    };
-    if !wires_right(bytes, shape.blocks, (shape.blocks + 62) / 63, shape.wires) {
+    let shape = shape_of(bytes).ok_or(LoadError::BadLayout)?;
+    if !wires_right(bytes, shape) {
         return Err(LoadError::BadLayout);
     }
-    Ok(File::new(bytes, shape.blocks, shape.wires))
+    Ok(File::new(bytes, shape))
 }
 
 // Builds the wiring of a laid file for a release in a graph of its own, as far as the first add or link that is refused.

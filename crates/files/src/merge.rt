@@ -5,92 +5,85 @@ ghost use Rattle.port_tables.specs.Lists.{range};
 ghost use Rattle.port_tables.specs.declared.release.Release.TheVariants.{One};
 ghost use Rattle.files.specs.Layout.{block_of, block_record, wire_of, wire_record, units_for, units_of, unbytes};
 ghost use Rattle.files.specs.Loading.{load_answer};
-ghost use Rattle.files.specs.Forms.{number_of};
-ghost use Rattle.files.specs.LoadForms.{record_in};
-ghost use Rattle.files.specs.Merging.{raised, merged_file, merge_error, result_answer, merge_answer, buffer_if, merge_buffer};
+ghost use Rattle.files.specs.Forms.{number_of, said};
+ghost use Rattle.files.specs.Merging.{raised, merged_file, result_answer, merge_answer, buffer_if, merge_buffer};
+ghost use Rattle.files.specs.declared.merge.MergeError.TheVariants.{Load};
 ghost use Rattle.files.specs.MergeForms.{block_read, wire_read, RaisedAt, RaisedFit, BothFew};
 
-use crate::bytes::{field_at, number_of};
+use crate::bytes::Fields;
+use crate::check::Shape;
 use crate::file::File;
 use crate::load::{LoadError, build_answer, laid};
 use crate::save::file_length;
 use crate::units::put_units;
-use multi_tables::answers::Refusal;
 use port_tables::index::{NODE_SLOTS, PORT_SLOTS};
 use port_tables::release::Release;
 
 // So many wires have two files that load, at most; they have fewer blocks.
 const MOST_RECORDS: usize = PORT_SLOTS;
 
-// No result of two such files is longer, loaded or not.
+// No result of two such files is longer, loaded or not. What `units_for` says is written out, since a constant can call nothing.
 const LONGEST_RESULT: usize = 512 * ((2 * NODE_SLOTS + 62) / 63 + (MOST_RECORDS + 62) / 63);
 
-// Why a merge is refused. Stays flat: a merge's refusals are one table of numbers.
+// Why a merge is refused.
 #[derive(Clone, Copy)]
 pub enum MergeError {
-    // Refusal 16, of the first file or the second: the length is not a multiple of 512, or a unit's sum is wrong.
-    BadSums,
-    // Refusal 17, of the first file or the second: kinds, counts, zeros, order, ranks or positions break the layout.
-    BadLayout,
-    // 3 or 10: what loading the first file, the second or the result for release 1 gives.
-    Refused(Refusal),
+    // 16 or 17, of the first file or the second; 3 or 10: what loading the first file, the second or the result for release 1 gives.
+    Load(LoadError),
     // Refusal 15: the lent buffer is too short, and stayed as it was.
     BufferShort,
 }
 
 impl From<LoadError> for MergeError {
-    ghost from_gives = { λ error told. told ≡ merge_error error };
+    ghost from_gives = { λ error told. told ≡ Load error };
 
     fn from(error: LoadError) -> MergeError {
-        match error {
-            LoadError::BadSums => MergeError::BadSums,
-            LoadError::BadLayout => MergeError::BadLayout,
-            LoadError::Refused(refusal) => MergeError::Refused(refusal),
-        }
+        MergeError::Load(error)
     }
 }
 
-// The record of the block at a byte position, as a number.
-fn block_number(file: &[u8], at: usize) -> u64
-    requires { at + 8 ≤ length file.now }
-    ensures { result ≡ number_of (block_record (block_of (record_in file.now at))) }
+// The record of a block, as a number: its last two fields are zero.
+fn block_number(block: Fields) -> u64
+    ensures { result ≡ number_of (block_record (block_of (said block))) }
 {
-    let incoming = field_at(file, at);
-    let outgoing = field_at(file, at + 2);
-    number_of(incoming, outgoing, 0, 0)
+    let alone = Fields {
+        c: 0,
+        d: 0,
+        ..block
+    };
+    alone.number()
 }
 
 // The records of the blocks of a file, as numbers, in a list with a place for each.
 fn read_blocks(file: File, numbers: &mut [u64])
-    requires { length numbers.old ≡ file.blocks }
-    ensures { numbers.new ≡ map (block_read file.entry.bytes.now) (range 0 file.entry.blocks) }
+    requires { length numbers.old ≡ file.shape.blocks }
+    ensures { numbers.new ≡ map (block_read file.entry.bytes.now) (range 0 file.entry.shape.blocks) }
 {
-    for i in 0..file.blocks {
-        let at = file.block_place(i);
-        numbers[i] = block_number(file.bytes, at);
+    for (i, number) in numbers.iter_mut().enumerate() {
+        *number = block_number(file.block(i));
     }
 }
 
-// The record of the wire at a byte position, its ranks raised, as a number.
-fn raised_number(file: &[u8], at: usize, raise: u64) -> u64
-    requires { (at + 8 ≤ length file.now) × RaisedAt file.now raise at }
-    ensures { result ≡ number_of (wire_record (raised raise (wire_of (record_in file.now at)))) }
+// The record of a wire, its ranks raised, as a number.
+fn raised_number(wire: Fields, raise: u16) -> u64
+    requires { RaisedAt (said wire) raise }
+    ensures { result ≡ number_of (wire_record (raised raise (wire_of (said wire)))) }
 {
-    let source = raise + field_at(file, at);
-    let output = field_at(file, at + 2);
-    let target = raise + field_at(file, at + 4);
-    let input = field_at(file, at + 6);
-    number_of(source, output, target, input)
+    let moved = Fields {
+        a: raise + wire.a,
+        c: raise + wire.c,
+        ..wire
+    };
+    moved.number()
 }
 
 // The records of the wires of a file, their ranks raised, as numbers, in a list with a place for each.
-fn read_wires(file: File, raise: u64, numbers: &mut [u64])
-    requires { RaisedFit file.bytes.now (units_for file.blocks) file.wires raise × (length numbers.old ≡ file.wires) }
-    ensures { numbers.new ≡ map (wire_read file.entry.bytes.now (units_for file.entry.blocks) raise) (range 0 file.entry.wires) }
+fn read_wires(file: File, raise: u16, numbers: &mut [u64])
+    requires { RaisedFit file.bytes.now (units_for file.shape.blocks) file.shape.wires raise × (length numbers.old ≡ file.shape.wires) }
+    ensures { numbers.new ≡ map (wire_read file.entry.bytes.now (units_for file.entry.shape.blocks) raise) (range 0 file.entry.shape.wires) }
 {
-    for i in 0..file.wires {
-        let at = file.wire_place(i);
-        numbers[i] = raised_number(file.bytes, at, raise);
+    for (i, number) in numbers.iter_mut().enumerate() {
+        *number = raised_number(file.wire(i), raise);
     }
 }
 
@@ -99,53 +92,51 @@ fn read_wires(file: File, raise: u64, numbers: &mut [u64])
 struct Both<'a> {
     first: File<'a>,
     second: File<'a>,
-    ghost few: { BothFew first.blocks first.wires second.blocks second.wires },
+    ghost few: { BothFew first.shape.blocks first.shape.wires second.shape.blocks second.shape.wires },
 }
 
 impl<'a> Both<'a> {
     // How many blocks and wires the result has.
-    fn blocks(self) -> usize
-        ensures { result ≡ self.entry.first.blocks + self.entry.second.blocks }
+    fn shape(self) -> Shape
+        ensures { (result.blocks ≡ self.entry.first.shape.blocks + self.entry.second.shape.blocks) × (result.wires ≡ self.entry.first.shape.wires + self.entry.second.shape.wires) }
     {
-        self.first.blocks + self.second.blocks
-    }
-
-    fn wires(self) -> usize
-        ensures { result ≡ self.entry.first.wires + self.entry.second.wires }
-    {
-        self.first.wires + self.second.wires
+        Shape {
+            blocks: self.first.shape.blocks + self.second.shape.blocks,
+            wires: self.first.shape.wires + self.second.shape.wires,
+        }
     }
 
     // The length of the result.
     fn size(self) -> usize
         ensures { result ≡ length (merged_file self.entry.first.bytes.now self.entry.second.bytes.now) }
     {
-        file_length(self.blocks(), self.wires())
+        let shape = self.shape();
+        file_length(shape.blocks, shape.wires)
     }
 
     // Lays the units of the blocks of both from the buffer's start on; answers the place after them.
     fn put_blocks(self, numbers: &mut [u64], buffer: &mut [u8]) -> usize
-        requires { (self.first.blocks + self.second.blocks ≤ length numbers.old) × (512 * units_for (self.first.blocks + self.second.blocks) ≤ length buffer.old) }
-        ensures { (result ≡ 512 * units_for (self.entry.first.blocks + self.entry.second.blocks))
+        requires { (self.first.shape.blocks + self.second.shape.blocks ≤ length numbers.old) × (512 * units_for (self.first.shape.blocks + self.second.shape.blocks) ≤ length buffer.old) }
+        ensures { (result ≡ 512 * units_for (self.entry.first.shape.blocks + self.entry.second.shape.blocks))
             × (buffer.new ≡ sets buffer.old 0 (units_of 1 (map block_record ((unbytes self.entry.first.bytes.now).blocks ++ (unbytes self.entry.second.bytes.now).blocks)))) }
     {
-        let count = self.blocks();
-        read_blocks(self.first, &mut numbers[..self.first.blocks]);
-        read_blocks(self.second, &mut numbers[self.first.blocks..count]);
+        let count = self.shape().blocks;
+        read_blocks(self.first, &mut numbers[..self.first.shape.blocks]);
+        read_blocks(self.second, &mut numbers[self.first.shape.blocks..count]);
         put_units(buffer, 0, 1, &numbers[..count])
     }
 
     // Lays the units of the wires of both from a place on, the second's ranks raised.
     fn put_wires(self, numbers: &mut [u64], buffer: &mut [u8], at: usize)
-        requires { (self.first.wires + self.second.wires ≤ length numbers.old) × (at + 512 * units_for (self.first.wires + self.second.wires) ≤ length buffer.old) }
-        ensures { buffer.new ≡ sets buffer.old at (units_of 2 (map wire_record ((unbytes self.entry.first.bytes.now).wires ++ map (raised self.entry.first.blocks) (unbytes self.entry.second.bytes.now).wires))) }
+        requires { (self.first.shape.wires + self.second.shape.wires ≤ length numbers.old) × (at + 512 * units_for (self.first.shape.wires + self.second.shape.wires) ≤ length buffer.old) }
+        ensures { buffer.new ≡ sets buffer.old at (units_of 2 (map wire_record ((unbytes self.entry.first.bytes.now).wires ++ map (raised self.entry.first.shape.blocks) (unbytes self.entry.second.bytes.now).wires))) }
     {
-        let count = self.wires();
-        read_wires(self.first, 0, &mut numbers[..self.first.wires]);
+        let count = self.shape().wires;
+        read_wires(self.first, 0, &mut numbers[..self.first.shape.wires]);
         read_wires(
             self.second,
-            self.first.blocks as u64,
-            &mut numbers[self.first.wires..count],
+            self.first.shape.blocks as u16,
+            &mut numbers[self.first.shape.wires..count],
         );
         put_units(buffer, at, 2, &numbers[..count]);
     }
@@ -167,7 +158,7 @@ impl<'a> Both<'a> {
         let mut result = [0u8; LONGEST_RESULT];
         self.put(&mut result);
         let size = self.size();
-        let file = File::new(&result[..size], self.blocks(), self.wires());
+        let file = File::new(&result[..size], self.shape());
         build_answer(Release::One, file)
     }
 

@@ -11,17 +11,14 @@ ghost use Rattle.files.specs.Saving.{save_answer, save_buffer};
 ghost use Rattle.files.specs.Forms.{record_of, sorted_numbers, blocks_in, nodes_of, blocks_of, BlocksFit, wires_in, wires_of, Listings};
 
 use crate::ranks::{block_numbers, fill_ranks, wire_numbers};
-use crate::units::put_units;
+use crate::units::{UNIT_RECORDS, put_units, units_for};
 use multiportgraph::lent_graph::LentGraph;
 use multiportgraph::multiportgraph::MultiPortGraph;
-use port_tables::index::{NODE_SLOTS, PORT_SLOTS};
+use port_tables::index::{MOST_WIRES, NODE_SLOTS};
 use port_tables::release::Release;
 
-// A wire takes two port slots.
-const MOST_WIRES: usize = PORT_SLOTS / 2;
-
 // So many blocks and wires a small wiring has, and a middling one: shorter working lists are cleared faster.
-const FEW: usize = 63;
+const FEW: usize = UNIT_RECORDS;
 
 const SOME: usize = 126;
 
@@ -38,7 +35,7 @@ const ALL_LISTED: usize = 4 * NODE_SLOTS;
 
 const ALL_ENDS: usize = 8 * MOST_WIRES;
 
-// No file is longer than this, so a buffer of so many bytes is never too short.
+// No file is longer than this, so a buffer of so many bytes is never too short. What `units_for` says is written out, since a constant can call nothing.
 pub const LONGEST_FILE: usize = 512 * ((NODE_SLOTS + 62) / 63 + (MOST_WIRES + 62) / 63);
 
 // Refusal 15: the lent buffer is too short, and stayed as it was.
@@ -50,7 +47,7 @@ pub(crate) fn file_length(blocks: usize, wires: usize) -> usize
     requires { (blocks ≤ port_slots) × (wires ≤ port_slots) }
     ensures { result ≡ file_length blocks wires }
 {
-    512 * ((blocks + 62) / 63 + (wires + 62) / 63)
+    512 * (units_for(blocks) + units_for(wires))
 }
 
 // Lays the units of the blocks of a listing from the buffer's start on; answers the place after them.

@@ -1,68 +1,67 @@
 // Units of 512 bytes.
-ghost use Rattle.std.specs.Prelude.{◌≡◌, ◌+◌, ◌*◌, ◌%◌, ◌≤◌, ◌<◌, length, get_or, take, drop};
-ghost use mathlib.Core.List.{map, flat_map};
+ghost use Rattle.std.specs.Prelude.{◌≡◌, ◌+◌, ◌-◌, ◌*◌, ◌≤◌, length, replicate};
+ghost use mathlib.Core.List.{◌++◌, map, flat_map};
 ghost use Rattle.std.proofs.lemmas.List.Edits.{sets};
-ghost use Rattle.port_tables.specs.Lists.{range};
-ghost use Rattle.portgraph.specs.Model.{total};
-ghost use Rattle.files.specs.Layout.{word_at, unit_records, unit, units_for, units_of};
-ghost use Rattle.files.specs.Forms.{record_of, slot_bytes};
+ghost use Rattle.files.specs.Layout.{record_bytes, unit_records, sum_of, unit, units_for, units_of};
+ghost use Rattle.files.specs.Forms.{record_of};
 
 use crate::bytes::{put_field, put_record, put_word, word_at};
 
 // The most records of a unit.
-const UNIT_RECORDS: usize = 63;
+pub(crate) const UNIT_RECORDS: usize = 63;
 
-// A record of a list; the one of zeros past its end. Stays a number: the definitions read 0 there.
-fn record_at(records: &[u64], i: usize) -> u64
-    ensures { result ≡ get_or records.now i 0 }
+// So many units hold so many records.
+pub(crate) fn units_for(records: usize) -> usize
+    ensures { result ≡ units_for records }
 {
-    records.get(i).copied().unwrap_or(0)
+    records.div_ceil(UNIT_RECORDS)
 }
 
-// Lays the records from one on into a unit; unused ones are zero.
-fn put_records(bytes: &mut [u8], at: usize, records: &[u64], from: usize)
-    requires { (at + 504 ≤ length bytes.old) × (from ≤ length records.now) }
-    ensures { bytes.new ≡ sets bytes.old at (flat_map (slot_bytes records.now from) (range 0 unit_records)) }
+// Lays the records of a unit from a byte position on; unused ones are zero.
+fn put_records(bytes: &mut [u8], at: usize, records: &[u64])
+    requires { (at + 504 ≤ length bytes.old) × (length records.now ≤ unit_records) }
+    ensures { bytes.new ≡ sets bytes.old at (flat_map record_bytes (map record_of records.now) ++ replicate (8 * (unit_records - length records.now)) 0) }
 {
-    for i in 0..UNIT_RECORDS {
-        put_record(bytes, at + 8 * i, record_at(records, from + i));
+    for (i, record) in records.iter().enumerate() {
+        put_record(bytes, at + 8 * i, *record);
     }
+    let end = at + 8 * records.len();
+    bytes[end..at + 504].fill(0);
 }
 
-// The sum, modulo 4,294,967,296, of the 127 words from a byte position on.
-pub(crate) fn sum_words(bytes: &[u8], at: usize) -> u64
-    requires { at + 508 ≤ length bytes.now }
-    ensures { result ≡ total 127 (λ i. word_at bytes.now (at + 4 * i)) % 4294967296 }
+// The sum, modulo 4,294,967,296, of the 127 words before the sum of a unit. Stays a loop, as those of `check`: `fold` over chunks tells of the runs of its closure.
+pub(crate) fn sum_words(words: &[u8]) -> u32
+    requires { length words.now ≡ 508 }
+    ensures { result ≡ sum_of words.now }
 {
     let mut sum: u64 = 0;
-    for i in 0..127 {
-        sum += word_at(bytes, at + 4 * i);
+    for word in words.chunks_exact(4) {
+        sum += word_at(word, 0) as u64;
     }
-    sum % 4294967296
+    (sum % 4294967296) as u32
 }
 
-// Lays a unit: as many records as it holds, from one on. The kind stays a number: it is a field of the file.
-fn put_unit(bytes: &mut [u8], at: usize, kind: u64, records: &[u64], from: usize)
-    requires { (at + 512 ≤ length bytes.old) × (from ≤ length records.now) }
-    ensures { bytes.new ≡ sets bytes.old at (unit kind (take unit_records (drop from (map record_of records.now)))) }
+// Lays a unit of these records. The kind stays a number: it is a field of the file.
+fn put_unit(bytes: &mut [u8], at: usize, kind: u16, records: &[u64])
+    requires { (at + 512 ≤ length bytes.old) × (length records.now ≤ unit_records) }
+    ensures { bytes.new ≡ sets bytes.old at (unit kind (map record_of records.now)) }
 {
-    let left = records.len() - from;
     put_field(bytes, at, kind);
-    put_field(bytes, at + 2, UNIT_RECORDS.min(left) as u64);
-    put_records(bytes, at + 4, records, from);
-    let sum = sum_words(bytes, at);
-    put_word(bytes, at + 508, sum);
+    put_field(bytes, at + 2, records.len() as u16);
+    put_records(bytes, at + 4, records);
+    let end = at + 508;
+    let sum = sum_words(&bytes[at..end]);
+    put_word(bytes, end, sum);
 }
 
 // Lays all units of a kind; answers the place after the last.
-pub(crate) fn put_units(bytes: &mut [u8], at: usize, kind: u64, records: &[u64]) -> usize
+pub(crate) fn put_units(bytes: &mut [u8], at: usize, kind: u16, records: &[u64]) -> usize
     requires { at + 512 * units_for (length records.now) ≤ length bytes.old }
     ensures { (result ≡ at + 512 * units_for (length records.now))
         × (bytes.new ≡ sets bytes.old at (units_of kind (map record_of records.now))) }
 {
-    let units = (records.len() + 62) / 63;
-    for i in 0..units {
-        put_unit(bytes, at + 512 * i, kind, records, UNIT_RECORDS * i);
+    for (i, part) in records.chunks(UNIT_RECORDS).enumerate() {
+        put_unit(bytes, at + 512 * i, kind, part);
     }
-    at + 512 * units
+    at + 512 * units_for(records.len())
 }

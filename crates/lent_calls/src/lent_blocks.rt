@@ -9,13 +9,14 @@ ghost use Rattle.multiportgraph.specs.MultiLent.{graph_of, Sound, Resizes, settl
 ghost use Rattle.std.proofs.lemmas.List.Edits.{sets};
 ghost use Rattle.port_tables.specs.Limits.{port_slots, node_ports};
 ghost use Rattle.port_tables.specs.ResizeLinks.{BlockFits};
+ghost use Rattle.multiportgraph.specs.CodeForms.{block_found};
 ghost use Rattle.multiportgraph.specs.HiddenNodes.{copies_in, copies_dropped, enough};
 
 use crate::lent_copies::{copy_node_in, remove_all_lent, unsplit_lent, unsplit_range_lent};
 use lent_portgraph::lent_resize::resize_quiet_lent;
 use lent_portgraph::lent_slots::{add_node_lent, remove_node_lent};
 use multi_tables::answers::{Refusal, SubportIndex};
-use multi_tables::marks::{flagged, lay_marks, marked};
+use multi_tables::marks::{Recount, flagged};
 use multiportgraph::blocks::set_answer;
 use multiportgraph::calls::added_as;
 use multiportgraph::lent_graph::LentGraph;
@@ -54,22 +55,28 @@ pub fn cut_port_lent(
         × (unplaced_numbers result ≡ before_place (cut_numbers (cut_port (graph_of graph.old) port.0).answer)) }
 {
     graph.wire_tables().block_port(port)?;
-    if marked(&graph.marks, wide(port.0)) {
+    if flagged(&graph.marks, wide(port.0)) {
         unsplit_lent(graph, port.0);
-        return Ok(Some(SubportIndex {
-            port: port,
-            subport_offset: 0,
-        }));
+        return Ok(Some(SubportIndex::new_unique(port)));
     }
     let far = cut(&mut graph.ports.links, wide(port.0));
     graph.ports.counts.link_count = without_link(graph.ports.counts.link_count, far);
-    if far == 0 {
-        return Ok(None);
+    Ok(
+        far.checked_sub(1)
+            .map(|far| SubportIndex::new_unique(PortIndex(far))),
+    )
+}
+
+// A block's meta data, or why the node is refused.
+fn block_in(graph: &LentGraph, node: NodeIndex) -> Result<NodeMeta, Refusal>
+    requires { MultiWf (graph_of graph.now) }
+    ensures { result ≡ block_found (graph_of graph.now) node.0 }
+{
+    let meta = meta_in(&graph.ports.nodes, node.0).ok_or(Refusal::UnknownNode)?;
+    if flagged(&graph.flags, wide(node.0)) {
+        return Err(Refusal::HiddenNode);
     }
-    Ok(Some(SubportIndex {
-        port: PortIndex(far - 1),
-        subport_offset: 0,
-    }))
+    Ok(meta)
 }
 
 // MultiPortGraph::remove_node on a lent graph.
@@ -80,12 +87,7 @@ pub fn remove_lent(graph: &mut LentGraph, node: NodeIndex) -> Result<(), Refusal
         × StaysCanonical graph.old.ports.nodes graph.new.ports.nodes
         × (remove_numbers result ≡ remove_numbers (remove_block (graph_of graph.old) node.0).answer) }
 {
-    let Some(meta) = meta_in(&graph.ports.nodes, node.0) else {
-        return Err(Refusal::UnknownNode);
-    };
-    if flagged(&graph.flags, wide(node.0)) {
-        return Err(Refusal::HiddenNode);
-    }
+    let meta = block_in(graph, node)?;
     unsplit_range_lent(graph, meta.first_port.0, meta.port_count());
     // The node is live, so it is removed.
     let _ = remove_node_lent(&mut graph.ports, node);
@@ -93,6 +95,7 @@ pub fn remove_lent(graph: &mut LentGraph, node: NodeIndex) -> Result<(), Refusal
 }
 
 // Lists the hidden nodes of `count` ports from `first` on, in order, from place `at` on; answers the place after the last.
+// The place stays beside the list: a list lent from there on would have to be long enough, and one that is short is written as far as it goes.
 fn list_copies(graph: &LentGraph, list: &mut [u32], at: usize, first: usize, count: usize) -> usize
     requires { Sound (graph_of graph.now) × (first + count ≤ port_slots) × (at + count ≤ node_ports) }
     ensures { (result ≡ at + length (copies_in (graph_of graph.now) first count)) × (list.new ≡ sets list.old at (copies_in (graph_of graph.now) first count)) }
@@ -100,12 +103,8 @@ fn list_copies(graph: &LentGraph, list: &mut [u32], at: usize, first: usize, cou
     let mut place = at;
     for k in 0..count {
         let port = (first + k) as u32;
-        if marked(&graph.marks, first + k) {
-            store(
-                list,
-                place,
-                copy_node_in(&graph.ports.links, &graph.ports.owners, port),
-            );
+        if flagged(&graph.marks, first + k) {
+            store(list, place, copy_node_in(graph, port));
             place += 1;
         }
     }
@@ -146,14 +145,16 @@ fn finish_lent(
         × (result ≡ set_as answer)
         × StaysCanonical graph.old.ports.nodes graph.new.ports.nodes }
 {
-    let Ok(_) = answer else {
-        return set_answer(answer);
-    };
+    let moved = set_answer(answer)?;
     if let Some(after) = meta_in(&graph.ports.nodes, node.0) {
-        lay_marks(&mut graph.marks, meta, after);
+        let recount = Recount {
+            before: meta,
+            after: after,
+        };
+        recount.lay_marks(&mut graph.marks);
     }
     remove_all_lent(graph, list);
-    set_answer(answer)
+    Ok(moved)
 }
 
 // A resize that drops no more ports than this lists their hidden nodes in a short list, since a long one costs more to clear.
@@ -220,16 +221,11 @@ pub fn set_quiet_lent(
     if too_many_ports(incoming, outgoing) {
         return Err(Refusal::TooManyPorts);
     }
-    let Some(meta) = meta_in(&graph.ports.nodes, node.0) else {
-        return Err(Refusal::UnknownNode);
-    };
-    if flagged(&graph.flags, wide(node.0)) {
-        return Err(Refusal::HiddenNode);
-    }
+    let meta = block_in(graph, node)?;
     let resize = Resize {
-        meta: meta,
-        incoming: incoming,
-        outgoing: outgoing,
+        meta,
+        incoming,
+        outgoing,
     };
     resize_untold_listing_lent(graph, node, resize)
 }

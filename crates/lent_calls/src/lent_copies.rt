@@ -7,18 +7,17 @@ ghost use Rattle.multiportgraph.specs.HiddenNodes.{remove_copy, remove_lone, rem
 
 use lent_portgraph::lent_reads::{num_ports_in, port_index_in};
 use lent_portgraph::lent_slots::remove_node_lent;
-use multi_tables::marks::{marked, put_flag, put_marks};
-use multi_tables::reads::{far_in, owner_in};
+use multi_tables::marks::{flagged, put_flag, put_marks};
 use multiportgraph::lent_graph::LentGraph;
 use port_tables::direction::Direction;
-use port_tables::index::{NodeIndex, PORT_SLOTS, PortOffset};
+use port_tables::index::{NodeIndex, PortOffset};
 use port_tables::lent::NODE_WORDS;
 use port_tables::numbers::wide;
 use port_tables::port_entry::PortEntry;
-use port_tables::tables::at;
+use port_tables::tables::{at, far_in, owner_in};
 
-// The port of a node at a side and position; 0 where there is none.
-// Stays at 0, as its definition: who calls it knows that there is one.
+// The port of a node at a side and position; 0 where there is none, which no caller asks for.
+#[tactic(auto, unfolding(multiportgraph::specs::MultiLent::port_of_in))]
 pub(crate) fn port_of_in(
     nodes: &[u32; NODE_WORDS],
     node: u32,
@@ -27,56 +26,48 @@ pub(crate) fn port_of_in(
 ) -> u32
     ensures { result ≡ port_of_in nodes.now node direction index }
 {
-    let offset = PortOffset {
-        direction: direction,
-        index: index,
-    };
-    let Some(port) = port_index_in(nodes, node, offset) else {
-        return 0;
-    };
-    port.0
+    let offset = PortOffset { direction, index };
+    port_index_in(nodes, node, offset).map_or(0, |port| port.0)
 }
 
 // The side of a hidden node that has its copy port.
-fn copy_side_in<'a>(
-    nodes: &'a [u32; NODE_WORDS],
-    marks: &'a [bool; PORT_SLOTS],
-    node: u32,
-) -> Direction
-    ensures { result ≡ copy_side_in nodes.now marks.now node }
+#[tactic(auto, unfolding(multiportgraph::specs::MultiLent::copy_side_in))]
+fn copy_side_in(graph: &LentGraph, node: u32) -> Direction
+    ensures { result ≡ copy_side_in graph.now.ports.nodes graph.now.marks node }
 {
-    if num_ports_in(nodes, node, Direction::Incoming) == 1 {
-        if num_ports_in(nodes, node, Direction::Outgoing) == 1 {
-            if marked(marks, wide(port_of_in(nodes, node, Direction::Incoming, 0))) {
-                return Direction::Incoming;
-            }
-            return Direction::Outgoing;
-        }
+    let nodes = &graph.ports.nodes;
+    if num_ports_in(nodes, node, Direction::Incoming) != 1 {
+        return Direction::Outgoing;
+    }
+    if num_ports_in(nodes, node, Direction::Outgoing) != 1
+        || flagged(
+            &graph.marks,
+            wide(port_of_in(nodes, node, Direction::Incoming, 0)),
+        )
+    {
         return Direction::Incoming;
     }
     Direction::Outgoing
 }
 
-// The port that a port is linked with; 0 for none.
-// Stays at 0, as its definition: who calls it knows that there is one.
-fn far_port_in<'a>(links: &'a [u32; PORT_SLOTS], owners: &'a [u32; PORT_SLOTS], port: u32) -> u32
-    ensures { result ≡ far_port_in links.now owners.now port }
+// The port that a port is linked with; 0 for none, which no caller asks for.
+#[tactic(auto, unfolding(multiportgraph::specs::MultiLent::far_port_in))]
+fn far_port_in(graph: &LentGraph, port: u32) -> u32
+    ensures { result ≡ far_port_in graph.now.ports.links graph.now.ports.owners port }
 {
-    let PortEntry::Port(_) = PortEntry::read(at(owners, wide(port))) else {
-        return 0;
-    };
-    far_in(links, wide(port))
+    let owner = at(&graph.ports.owners, wide(port));
+    let links = &graph.ports.links;
+    PortEntry::read(owner)
+        .meta()
+        .map_or(0, |_| far_in(links, wide(port)))
 }
 
 // The hidden node of a split port.
-pub(crate) fn copy_node_in<'a>(
-    links: &'a [u32; PORT_SLOTS],
-    owners: &'a [u32; PORT_SLOTS],
-    port: u32,
-) -> u32
-    ensures { result ≡ copy_node_in links.now owners.now port }
+#[tactic(auto, unfolding(multiportgraph::specs::MultiLent::copy_node_in))]
+pub(crate) fn copy_node_in(graph: &LentGraph, port: u32) -> u32
+    ensures { result ≡ copy_node_in graph.now.ports.links graph.now.ports.owners port }
 {
-    owner_in(owners, far_port_in(links, owners, port))
+    owner_in(&graph.ports.owners, far_port_in(graph, port))
 }
 
 // The hidden node of a split port goes, with every link at it.
@@ -85,7 +76,7 @@ fn remove_copy_lent(graph: &mut LentGraph, port: u32, node: u32)
     ensures { (graph_of graph.new ≡ remove_copy (graph_of graph.old) port node)
         × StaysCanonical graph.old.ports.nodes graph.new.ports.nodes }
 {
-    let side = copy_side_in(&graph.ports.nodes, &graph.marks, node);
+    let side = copy_side_in(graph, node);
     let copy = port_of_in(&graph.ports.nodes, node, side, 0);
     let count = num_ports_in(&graph.ports.nodes, node, side.reverse());
     // Of a node that is not live nothing goes.
@@ -102,8 +93,8 @@ pub(crate) fn unsplit_lent(graph: &mut LentGraph, port: u32)
     ensures { (graph_of graph.new ≡ unsplit (graph_of graph.old) port)
         × StaysCanonical graph.old.ports.nodes graph.new.ports.nodes }
 {
-    if marked(&graph.marks, wide(port)) {
-        let node = copy_node_in(&graph.ports.links, &graph.ports.owners, port);
+    if flagged(&graph.marks, wide(port)) {
+        let node = copy_node_in(graph, port);
         remove_copy_lent(graph, port, node);
     }
 }
@@ -125,7 +116,7 @@ fn remove_lone_lent(graph: &mut LentGraph, node: u32)
     ensures { (graph_of graph.new ≡ remove_lone (graph_of graph.old) node)
         × StaysCanonical graph.old.ports.nodes graph.new.ports.nodes }
 {
-    let side = copy_side_in(&graph.ports.nodes, &graph.marks, node);
+    let side = copy_side_in(graph, node);
     let copy = port_of_in(&graph.ports.nodes, node, side, 0);
     remove_copy_lent(graph, copy, node);
 }

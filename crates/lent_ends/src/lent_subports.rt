@@ -23,7 +23,7 @@ pub fn subport_link_lent(
 {
     let tables = graph.wire_tables();
     let inner = tables.end_named(subport)?;
-    tables.wire_end_in(inner)
+    Ok(tables.wire_end_in(inner))
 }
 
 // MultiPortGraph::unlink_subport over a lent graph, without the place.
@@ -39,10 +39,10 @@ pub fn cut_sub_lent(
 {
     let tables = graph.wire_tables();
     let inner = tables.end_named(subport)?;
-    let answer = tables.wire_end_in(inner);
+    let end = tables.wire_end_in(inner);
     let far = cut(&mut graph.ports.links, wide(inner));
     graph.ports.counts.link_count = without_link(graph.ports.counts.link_count, far);
-    answer
+    Ok(end)
 }
 
 // MultiPortGraph::link_subports over a lent graph.

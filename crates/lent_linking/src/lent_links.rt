@@ -33,9 +33,7 @@ fn link_first_lent(
         × StaysCanonical graph.old.ports.nodes graph.new.ports.nodes }
 {
     let need = need_of(graph, a);
-    let Some(_) = prepare_lent(graph, a, need) else {
-        return Err(Refusal::NoRoom);
-    };
+    prepare_lent(graph, a, need).ok_or(Refusal::NoRoom)?;
     Err(Refusal::UnknownSecondPort(b))
 }
 
@@ -50,9 +48,7 @@ fn link_self_lent(
         × StaysCanonical graph.old.ports.nodes graph.new.ports.nodes }
 {
     let need = need_of(graph, a);
-    let Some((x, _)) = prepare_lent(graph, a, need) else {
-        return Err(Refusal::NoRoom);
-    };
+    let (x, _) = prepare_lent(graph, a, need).ok_or(Refusal::NoRoom)?;
     Err(Refusal::IncompatibleDirections(PortIndex(x), PortIndex(x), a.side))
 }
 
@@ -70,9 +66,7 @@ fn link_second_lent(
         × StaysCanonical graph.old.ports.nodes graph.new.ports.nodes }
 {
     let (x, o) = first;
-    let Some((y, r)) = prepare_lent(graph, b, need) else {
-        return Err(Refusal::NoRoom);
-    };
+    let (y, r) = prepare_lent(graph, b, need).ok_or(Refusal::NoRoom)?;
     if a.side == b.side {
         return Err(Refusal::IncompatibleDirections(PortIndex(x), PortIndex(y), a.side));
     }
@@ -109,9 +103,7 @@ fn link_pair_lent(
     if !room_for(&graph.ports, takes_of(one), takes_of(two)) {
         return Err(Refusal::NoRoom);
     }
-    let Some(first) = prepare_lent(graph, a, one) else {
-        return Err(Refusal::NoRoom);
-    };
+    let first = prepare_lent(graph, a, one).ok_or(Refusal::NoRoom)?;
     link_second_lent(graph, a, first, b, two)
 }
 
@@ -134,11 +126,7 @@ fn link_seen_lent(
             if a.port == b.0 {
                 return link_self_lent(graph, a);
             }
-            let second = SidedPort {
-                port: b.0,
-                side: side,
-            };
-            link_pair_lent(graph, a, second)
+            link_pair_lent(graph, a, SidedPort { port: b.0, side })
         }
     }
 }
@@ -155,15 +143,12 @@ pub fn link_lent(
         × StaysCanonical graph.old.ports.nodes graph.new.ports.nodes
         × (link_numbers result ≡ link_numbers (link_pair (graph_of graph.old) port_a.0 port_b.0).answer) }
 {
-    let release = graph.release;
     let tables = graph.wire_tables();
-    if tables.input_taken(release, port_a.0, port_b.0) {
-        return Err(tables.taken_ports(port_a, port_b));
-    }
+    tables.inputs_free(graph.release, port_a, port_b)?;
     let (_, side) = tables.block_port(port_a)?;
     let first = SidedPort {
         port: port_a.0,
-        side: side,
+        side,
     };
     link_seen_lent(graph, first, port_b)
 }

@@ -13,7 +13,6 @@ ghost use Rattle.multiportgraph.specs.MultiLent.{graph_of, prepared_in};
 use lent_portgraph::lent_resize::set_num_ports_quiet_lent;
 use lent_portgraph::lent_slots::add_node_lent;
 use multi_tables::marks::{put_flag, put_marks};
-use multi_tables::reads::far_in;
 use multi_tables::seen::SidedPort;
 use multiportgraph::lent::Need;
 use multiportgraph::lent_graph::LentGraph;
@@ -22,7 +21,7 @@ use port_tables::direction::Direction;
 use port_tables::index::{NodeIndex, PORT_SLOTS};
 use port_tables::node_entry::NodeMeta;
 use port_tables::numbers::wide;
-use port_tables::tables::{cut, link_both, without_link};
+use port_tables::tables::{cut, far_in, link_both, without_link};
 
 // The port hangs on the copy port, and its old link is at the first subport. Answers what the table held for the port.
 fn hang(links: &mut [u32; PORT_SLOTS], port: u32, copy: u32, first: u32) -> u32
@@ -42,9 +41,7 @@ fn split_lent(graph: &mut LentGraph, port: SidedPort) -> Option<(u32, u16)>
         × StaysCanonical graph.old.ports.nodes graph.new.ports.nodes }
 {
     let shape = SplitShape::new(port.side);
-    let Ok((node, first)) = add_node_lent(&mut graph.ports, shape.incoming, shape.outgoing) else {
-        return None;
-    };
+    let (node, first) = add_node_lent(&mut graph.ports, shape.incoming, shape.outgoing).ok()?;
     let copy = first.0 + shape.copy;
     let old = first.0 + shape.subports;
     let was = hang(&mut graph.ports.links, port.port, copy, old);
@@ -81,9 +78,7 @@ fn grow_lent(
     let copy = far_in(&graph.ports.links, wide(port.port));
     let count = meta.num_ports(port.side);
     let (incoming, outgoing) = hidden_counts(port.side, count + 1);
-    let Ok(_) = set_num_ports_quiet_lent(&mut graph.ports, node, incoming, outgoing) else {
-        return None;
-    };
+    set_num_ports_quiet_lent(&mut graph.ports, node, incoming, outgoing).ok()?;
     let moved = far_in(&graph.ports.links, wide(port.port));
     put_marks(&mut graph.marks, copy, false, moved, true);
     graph.subs += 1;

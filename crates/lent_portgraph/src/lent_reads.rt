@@ -13,10 +13,7 @@ use port_tables::sides::{Sides, ports_from};
 pub fn num_ports_in(nodes: &[u32; NODE_WORDS], node: u32, direction: Direction) -> usize
     ensures { result ≡ count_in (meta_in nodes.now node) direction }
 {
-    let Some(meta) = meta_in(nodes, node) else {
-        return 0;
-    };
-    meta.num_ports(direction)
+    meta_in(nodes, node).map_or(0, |meta| meta.num_ports(direction))
 }
 
 // The port at a side and position of a node; none outside the port tables.

@@ -21,7 +21,8 @@ use portgraph::alloc::{find_block, grown, rest_of};
 use portgraph::lent_graph::PortTables;
 use portgraph::resize::SetError;
 
-// Cuts the links of the ports that are dropped, incoming ones first, and tells nothing.
+// Cuts the links of the ports that are dropped, incoming ones first, and tells nothing. Stays beside `drop_both` of Resize: to tell each port as it goes,
+// or not, would be a closure over the list.
 fn drop_quiet(tables: &mut PortTables, resize: Resize)
     requires { BlockWithin resize.meta }
     ensures { tables.new ≡ record tables.old {
@@ -43,7 +44,8 @@ fn drop_quiet(tables: &mut PortTables, resize: Resize)
     tables.counts.link_count = tables.counts.link_count.saturating_sub(a + b);
 }
 
-// Takes the block that was found for a size: another one is the first free block then, or the tables are longer.
+// Takes the block that was found for a size: another one is the first free block then, or the tables are longer. Calls by value and adds have these four
+// lines of their own: the definition of each names the heads and the length that it leaves.
 fn take_block(tables: &mut PortTables, first: usize, size: usize)
     requires { (tables.old.counts.port_len ≤ port_slots) × (size ≤ port_slots) }
     ensures { tables.new ≡ record tables.old {
@@ -134,9 +136,9 @@ pub fn resize_quiet_lent(
         return Ok(meta.port_count().saturating_sub(kept_in));
     }
     let size = round_up(resize.incoming + resize.outgoing);
-    let Some(new_first) = find_block(&tables.heads, tables.counts.port_len, size) else {
-        return Err(SetError::NoRoom);
-    };
+    let new_first = find_block(&tables.heads, tables.counts.port_len, size).ok_or(
+        SetError::NoRoom,
+    )?;
     take_block(tables, new_first, size);
     drop_quiet(tables, resize);
     settle_anew_lent(tables, node, resize, new_first, size);
@@ -160,13 +162,11 @@ pub fn set_num_ports_quiet_lent(
     if too_many_ports(incoming, outgoing) {
         return Err(SetError::TooManyPorts);
     }
-    let Some(meta) = meta_in(&tables.nodes, node.0) else {
-        return Err(SetError::UnknownNode);
-    };
+    let meta = meta_in(&tables.nodes, node.0).ok_or(SetError::UnknownNode)?;
     let resize = Resize {
-        meta: meta,
-        incoming: incoming,
-        outgoing: outgoing,
+        meta,
+        incoming,
+        outgoing,
     };
     resize_quiet_lent(tables, node, resize)
 }

@@ -32,12 +32,9 @@ pub fn add_node_lent(
     }
     let size = incoming + outgoing;
     let counts = tables.counts;
-    let Some(node) = find_slot(counts.node_free, counts.node_len) else {
-        return Err(AddError::NoRoom);
-    };
-    let Some(first) = find_block(&tables.heads, counts.port_len, size) else {
-        return Err(AddError::NoRoom);
-    };
+    let node = find_slot(counts.node_free, counts.node_len).ok_or(AddError::NoRoom)?;
+    let first = find_block(&tables.heads, counts.port_len, size).ok_or(AddError::NoRoom)?;
+    // Written out, as in the call by value: a constructor would presume that each count fits its 16 bits, which is known here.
     let meta = NodeMeta {
         first_port: PortIndex(first as u32),
         incoming: incoming as u16,
@@ -59,7 +56,7 @@ pub fn add_node_lent(
         port_len: grown(head, counts.port_len, size),
         node_count: counts.node_count + 1,
         port_count: counts.port_count + size,
-        link_count: counts.link_count,
+        ..counts
     };
     Ok((NodeIndex(node as u32), PortIndex(first as u32)))
 }
@@ -73,9 +70,7 @@ pub fn remove_node_lent(tables: &mut PortTables, node: NodeIndex) -> Result<(), 
         × StaysCanonical tables.old.nodes tables.new.nodes
         × (remove_numbers result ≡ remove_numbers (remove_node (graph_of tables.old) node.0).answer) }
 {
-    let Some(meta) = meta_in(&tables.nodes, node.0) else {
-        return Err(NoSuchNode);
-    };
+    let meta = meta_in(&tables.nodes, node.0).ok_or(NoSuchNode)?;
     let counts = tables.counts;
     let place = wide(node.0);
     let first = wide(meta.first_port.0);
@@ -94,11 +89,10 @@ pub fn remove_node_lent(tables: &mut PortTables, node: NodeIndex) -> Result<(), 
     put_head(&mut tables.heads, size, meta.first_port.0 + 1);
     tables.counts = Counts {
         node_free: node.0 + 1,
-        node_len: counts.node_len,
-        port_len: counts.port_len,
         node_count: counts.node_count.saturating_sub(1),
         port_count: counts.port_count.saturating_sub(meta.port_count()),
         link_count: counts.link_count.saturating_sub(cuts),
+        ..counts
     };
     Ok(())
 }

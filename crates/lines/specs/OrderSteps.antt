@@ -7,6 +7,7 @@ use Rattle.std.specs.Prelude.{Result, Ok, Err}
 use Rattle.std.specs.Result.{OkIff, result_unwrap_or}
 use Rattle.std.proofs.Math.Logic.{⊎_elim}
 use Rattle.std.proofs.Math.ListN.{get_or, length}
+use Rattle.std.proofs.lemmas.List.{get_or_past}
 use Rattle.lines.specs.Orders.{order, start_of, with_number, number_at, offset_at, most_numbers, Asks, word_at, is_empty, file_name, Says, Numbered}
 use Rattle.lines.specs.Text.{bytes_of, next_word, number_said, same_bytes}
 use Rattle.lines.specs.TextSteps.{below_or}
@@ -22,13 +23,13 @@ module _ {C : Type 0} (o : Order C) (place : ℕ) where
   unfolding with_number
   with_past value h = rw (le-ltb place most_numbers h) refl
 
-  pub number_there : place < most_numbers → get_or o.numbers place 0 ≡ number_at o place
+  pub number_read : length o.numbers ≡ most_numbers → get_or o.numbers place 0 ≡ number_at o place
   unfolding number_at
-  number_there h = rw (lt-ltb place most_numbers h) refl
-
-  pub number_past : most_numbers ≤ place → 0 ≡ number_at o place
-  unfolding number_at
-  number_past h = rw (le-ltb place most_numbers h) refl
+  number_read n = go (ltb place most_numbers) refl
+    where
+      go : (t : Bool) → ltb place most_numbers ≡ t → get_or o.numbers place 0 ≡ cond t (get_or o.numbers place 0) 0
+      go true l = refl
+      go false l = let p = ltb-false place most_numbers l in get_or_past o.numbers place 0 (omega arith)
 
   -- The number is converted, where it has 16 bits.
   pub offset_of : {E : Type 0} (number : ℕ) (r : Result ℕ E) → number ≡ number_at o place → OkIff r (number < 65536) number → result_unwrap_or r 65535 ≡ offset_at o place

@@ -1,16 +1,19 @@
 -- What the proofs of functions over texts cite.
-use Rattle.std.specs.Prelude.{◌≡◌, Bool, ◌&&◌, ◌||◌, List, [], ◌∷◌, ◌⊎◌, ℕ, suc, ◌+◌, ◌-◌, ◌*◌, ◌≤◌, ◌<◌, ltb, get_or, take, drop}
+use Rattle.std.specs.Prelude.{◌≡◌, Bool, not, ◌&&◌, ◌||◌, List, [], ◌∷◌, ◌⊎◌, MatchBool, ℕ, suc, ◌+◌, ◌-◌, ◌*◌, ◌≤◌, ◌<◌, ltb, get_or, take, drop}
 use Rattle.std.proofs.Math.Path.{refl, sym}
-use Rattle.std.proofs.Common.{ap, ◌∙◌, inl, inr, add-one, drop_of_length-le, drop-cons}
+use Rattle.std.proofs.Common.{ap, ◌∙◌, inl, inr, add-one, drop_of_length-le}
 use Rattle.std.proofs.Math.Bool.{true, false, cond}
 use Rattle.std.specs.Bool.{beq}
 use native.Mathlib.Omega.{arith}
 use Rattle.std.proofs.Math.Dec.{eqb, leb}
 use Rattle.std.proofs.Math.ListN.{length}
-use borrow.Author.Tests.{eqb-false, eq-eqb, ne_eqb, lt-ltb, le-ltb, le-leb, lt-leb, leb-true, leb-false, ltb-true, ltb-false}
-use Rattle.lines.specs.Text.{is_blank, bytes_from, part_of, without_return, line_of, leading, pass_over, next_word, same_bytes, is_digit, all_digits, decimal_after, number_said, number_or_zero, no_value, value_or_none}
-use Rattle.std.specs.Prelude.{zero, max, Option, None, Some, unwrap_or}
+use borrow.Author.Tests.{eqb-false, eq-eqb, ne_eqb, lt-ltb, le-ltb, le-leb, lt-leb, ltb-true, ltb-false}
+use Rattle.lines.specs.Text.{is_blank, bytes_from, part_of, without_return, line_of, leading, pass_over, same_bytes, is_digit, all_digits, decimal_after, number_said, number_or_zero, no_value, value_or_none}
+use Rattle.std.specs.Prelude.{zero, Option, None, Some, unwrap_or}
 use Rattle.std.specs.Option.{SomeIff}
+use Rattle.std.specs.List.{position, position_or_len}
+use Rattle.std.proofs.lemmas.List.{take_all, length-drop}
+use Rattle.std.proofs.lemmas.List.Sums.{prefix_len-le-length}
 use Rattle.std.proofs.Math.Seq.{take-length}
 use Rattle.std.proofs.Math.Logic.{⊎_elim}
 use Rattle.lines.specs.declared.text.Span.{Span}
@@ -102,32 +105,42 @@ module _ (b : ℕ) where
   unfolding is_blank
   no_blank h k l = rw (ne_eqb b 32 h, ne_eqb b 9 k, ne_eqb b 10 l) refl
 
-module _ (text : List ℕ) (at : ℕ) (blanks : Bool) where
-  pub pass_next : at < length text → beq (is_blank (get_or text at 0)) blanks ≡ true → pass_over text (at + 1) blanks ≡ pass_over text at blanks
-  unfolding pass_over leading
-  pass_next h e = rw (drop-cons text at 0 h, e, add-one) (omega arith)
-
-  pub pass_here : at < length text → beq (is_blank (get_or text at 0)) blanks ≡ false → at ≡ pass_over text at blanks
-  unfolding pass_over leading
-  pass_here h e = rw (drop-cons text at 0 h, e) (omega arith)
-
-  pass_end : length text ≤ at → at ≡ pass_over text at blanks
-  unfolding pass_over leading
-  pass_end h = rw (drop_of_length-le text h) (omega arith)
-
--- Every byte was passed, or there is none.
-pub pass_all : (text : List ℕ) (from at end : ℕ) (blanks : Bool) → length text ≤ at → (from ≤ length text → at ≤ length text) → pass_over text at blanks ≡ pass_over text from blanks → end ≡ max from (length text) →
-    end ≡ pass_over text from blanks
-pass_all text from at end blanks h k e m = go (leb from (length text)) refl
+-- the first place at which a test passes, or the length
+first_or_all : (p : ℕ → Bool) (l : List ℕ) → unwrap_or (position p l) (length l) ≡ position_or_len p l
+first_or_all p l = go (ltb (position_or_len p l) (length l)) refl
   where
-    go : (t : Bool) → leb from (length text) ≡ t → end ≡ pass_over text from blanks
-    go true l = let p = leb-true from (length text) l in let q = k p in let r : end ≡ at = omega arith in r ∙ pass_end text at blanks h ∙ e
-    go false l = let p = leb-false from (length text) l in let r : end ≡ from = omega arith in r ∙ pass_end text from blanks (omega arith)
+    go : (t : Bool) → ltb (position_or_len p l) (length l) ≡ t → unwrap_or (cond t (Some (position_or_len p l)) None) (length l) ≡ position_or_len p l
+    go true e = refl
+    go false e = let h = ltb-false (position_or_len p l) (length l) e in let k = prefix_len-le-length (λ (b : ℕ). not (p b)) l in omega arith
 
-pub word_between : (text : List ℕ) (from start end : ℕ) → start ≡ pass_over text from true → end ≡ pass_over text start false →
-    ◌≡◌ {A = Span} (record { from = start; to = end }) (next_word text from)
-unfolding next_word
-word_between text from start end e h = λ j. record { from = e j; to = (h ∙ ap (λ (at : ℕ). pass_over text at false) e) j }
+leading_is : (blanks : Bool) (l : List ℕ) → position_or_len (λ b. not (beq (is_blank b) blanks)) l ≡ leading blanks l
+unfolding leading
+leading_is blanks [] = refl
+leading_is blanks (b ∷ l) = go (beq (is_blank b) blanks) (leading_is blanks l)
+  where
+    go : (t : Bool) → position_or_len (λ b. not (beq (is_blank b) blanks)) l ≡ leading blanks l → cond (not (not t)) (1 + position_or_len (λ b. not (beq (is_blank b) blanks)) l) 0 ≡ cond t (suc (leading blanks l)) 0
+    go true e = omega arith
+    go false e = refl
+
+module _ (blanks : Bool) (l : List ℕ) {r : Option ℕ} (e : r ≡ position (λ b. not (beq (is_blank b) blanks)) l) where
+  pub leading_found : unwrap_or r (length l) ≡ leading blanks l
+  leading_found = ap (λ (o : Option ℕ). unwrap_or o (length l)) e ∙ first_or_all (λ b. not (beq (is_blank b) blanks)) l ∙ leading_is blanks l
+
+  pub leading_short : unwrap_or r (length l) ≤ length l
+  leading_short = let h = leading_found in let q = leading_is blanks l in let k = prefix_len-le-length (λ (b : ℕ). not (not (beq (is_blank b) blanks))) l in omega arith
+
+module _ (text : List ℕ) (from : ℕ) (blanks : Bool) where
+  -- no text is left
+  pub passed_none : (length text < from) ⊎ (length text < length text) → from ≡ pass_over text from blanks
+  unfolding pass_over leading
+  passed_none h = ⊎_elim (λ k. rw (drop_of_length-le text {i = from} (omega arith)) (omega arith)) (λ k. absurd (omega arith)) h
+
+  -- what is left is passed
+  pub passed_by : {n : ℕ} {rest : List ℕ} → n ≡ leading blanks rest → rest ≡ take (length text - from) (drop from text) → from + n ≡ pass_over text from blanks
+  unfolding pass_over
+  passed_by {n} {rest} e h =
+      let all = take_all (length text - from) (drop from text) (let l = length-drop from text in omega arith) in
+      ap (λ (k : ℕ). from + k) (e ∙ ap (leading blanks) (h ∙ all))
 
 -- Words, byte by byte.
 
@@ -147,30 +160,40 @@ same_long (b ∷ l) (c ∷ m) h = rw (← same_long l m (λ e. h (ap suc e))) (g
     go true = refl
     go false = refl
 
-module _ (text other : List ℕ) (at to place end : ℕ) where
-  abbrev pub left : Bool
-  left = same_bytes (bytes_from text at (to - at)) (bytes_from other place (end - place))
+module _ (text other : List ℕ) where
+  same_passed : (n at place : ℕ) → ((k : ℕ) → k < n → get_or text (at + k) 0 ≡ get_or other (place + k) 0) → true ≡ same_bytes (bytes_from text at n) (bytes_from other place n)
+  unfolding bytes_from same_bytes
+  same_passed zero at place h = refl
+  same_passed (suc n) at place h =
+      let e : get_or text at 0 ≡ get_or other place 0 = let p : at + 0 ≡ at = omega arith in let q : place + 0 ≡ place = omega arith in rw (p, q) at (h 0 (omega arith)) in
+      rw (eq-eqb (get_or text at 0) (get_or other place 0) e)
+      (same_passed n (suc at) (suc place) (λ k l. let p : at + suc k ≡ suc at + k = omega arith in let q : place + suc k ≡ suc place + k = omega arith in rw (p, q) at (h (suc k) (omega arith))))
 
-  pub same_next : at < to → place < end → get_or text at 0 ≡ get_or other place 0 →
-      same_bytes (bytes_from text (at + 1) (to - (at + 1))) (bytes_from other (place + 1) (end - (place + 1))) ≡ left
-  unfolding same_bytes
-  same_next h k e = rw (bytes_next text at to h, bytes_next other place end k, eq-eqb (get_or text at 0) (get_or other place 0) e) refl
+  same_stopped : (n at place k : ℕ) → k < n → (get_or text (at + k) 0 ≡ get_or other (place + k) 0 → ⊥) → false ≡ same_bytes (bytes_from text at n) (bytes_from other place n)
+  unfolding bytes_from same_bytes
+  same_stopped zero at place k l h = absurd (omega arith)
+  same_stopped (suc n) at place zero l h =
+      let p : at + 0 ≡ at = omega arith in
+      let q : place + 0 ≡ place = omega arith in
+      rw (ne_eqb (get_or text at 0) (get_or other place 0) (rw (p, q) at h)) refl
+  same_stopped (suc n) at place (suc k) l h =
+      let p : at + suc k ≡ suc at + k = omega arith in
+      let q : place + suc k ≡ suc place + k = omega arith in
+      rw (← same_stopped n (suc at) (suc place) k (omega arith) (rw (p, q) at h)) (go (eqb (get_or text at 0) (get_or other place 0)))
+    where
+      go : (b : Bool) → false ≡ (b && false)
+      go true = refl
+      go false = refl
 
-  pub same_other : at < to → place < end → (get_or text at 0 ≡ get_or other place 0 → ⊥) → false ≡ left
-  unfolding same_bytes
-  same_other h k e = rw (bytes_next text at to h, bytes_next other place end k, ne_eqb (get_or text at 0) (get_or other place 0) e) refl
+  -- what `all` says of so many places
+  pub same_all : (places : List ℕ) (n at place : ℕ) {a b : ℕ} (r : Bool) → length places ≡ n → ((i : ℕ) → i < n → get_or places i 0 ≡ i) → n ≡ a → n ≡ b
+      → MatchBool r ((k d : ℕ) → 0 ≤ k → k < length places → get_or text (at + get_or places k d) 0 ≡ get_or other (place + get_or places k d) 0) ((k : ℕ) × (k < length places) × ((d : ℕ) → get_or text (at + get_or places k d) 0 ≡ get_or other (place + get_or places k d) 0 → ⊥))
+      → r ≡ same_bytes (bytes_from text at a) (bytes_from other place b)
+  same_all places n at place true m e p q h = rw (sym p, sym q) (same_passed n at place (λ k l. rw (e k l) at (h k 0 (omega arith) (omega arith))))
+  same_all places n at place false m e p q (k, l, h) = let i : k < n = omega arith in rw (sym p, sym q) (same_stopped n at place k i (rw (e k i) at (h 0)))
 
-  pub same_end : to ≤ at → end ≤ place → true ≡ left
-  unfolding same_bytes
-  same_end h k = rw (bytes_end text at to h, bytes_end other place end k) refl
-
-  pub same_unlike : (to - at ≡ end - place → ⊥) → false ≡ left
-  same_unlike h = same_long (bytes_from text at (to - at)) (bytes_from other place (end - place)) (λ e. h (sym (bytes_long text at (to - at)) ∙ e ∙ bytes_long other place (end - place)))
-
-module _ (text other : List ℕ) (at to place end k : ℕ) (l : at + k < to) (m : place + k < end) where
-  pub same_step : get_or text (at + k) 0 ≡ get_or other (place + k) 0 → left text other (at + (k + 1)) to (place + (k + 1)) end ≡ left text other (at + k) to (place + k) end
-  same_step e = let p : at + (k + 1) ≡ at + k + 1 = omega arith in let q : place + (k + 1) ≡ place + k + 1 = omega arith in
-      rw (p, q) (same_next text other (at + k) to (place + k) end l m e)
+  pub same_unlong : (at n place m : ℕ) → (n ≡ m → ⊥) → eqb n m ≡ same_bytes (bytes_from text at n) (bytes_from other place m)
+  same_unlong at n place m h = rw (ne_eqb n m h) (same_long (bytes_from text at n) (bytes_from other place m) (λ e. h (sym (bytes_long text at n) ∙ e ∙ bytes_long other place m)))
 
 -- Digits, one after the other.
 

@@ -13,13 +13,8 @@ pub enum Asked {
 fn asked_by(rt: &impl Env, number: usize) -> Option<Asked> {
     let mut buffer = [0u8; 16];
     match rt.arg(number, &mut buffer) {
-        Ok(len) => {
-            if is_word(&buffer, Span { from: 0, to: len }, b"--echo") {
-                return Some(Asked::Echo);
-            }
-            Some(Asked::Usage)
-        }
-        Err(FillError::TooLong) => Some(Asked::Usage),
+        Ok(len) if is_word(&buffer, Span { from: 0, to: len }, b"--echo") => Some(Asked::Echo),
+        Ok(_) | Err(FillError::TooLong) => Some(Asked::Usage),
         Err(FillError::NotPresent) => None,
     }
 }

@@ -14,6 +14,9 @@ pub mod orders;
 pub mod rows;
 mod wrong;
 
+// What a number of a line names.
+pub mod named;
+
 // A line of output.
 pub mod show;
 

@@ -8,6 +8,7 @@ ghost use Rattle.lines.specs.Orders.{Asks, Numbered, Ordered, Says, file_name, s
 use crate::listening::Heard;
 use crate::text::{Span, is_word, next_word, number_of};
 use crate::wrong::{Wrong, show_bad};
+use std::ops::RangeInclusive;
 
 // The most numbers of a command, but for a list.
 const NUMBERS: usize = 8;
@@ -30,6 +31,7 @@ pub struct Order<C> {
 }
 
 impl<C: Copy> Order<C> {
+    #[tactic(auto, unfolding(crate::specs::Orders::start_of))]
     fn to(command: C, from: usize) -> Self
         ensures { result ≡ start_of command from }
     {
@@ -41,6 +43,8 @@ impl<C: Copy> Order<C> {
         }
     }
 
+    // Outside nothing changes. Stays a test of the place: of what `get_mut` lends, a proof keeps the length alone.
+    #[tactic(auto, using(crate::specs::OrderSteps::with_there, crate::specs::OrderSteps::with_past), unfolding(crate::specs::Orders::with_number))]
     fn with(mut self, place: usize, value: u32) -> Self
         ensures { result ≡ with_number self place value }
     {
@@ -51,17 +55,15 @@ impl<C: Copy> Order<C> {
     }
 
     // The number at a place, from 0; 0 where there is none.
+    #[tactic(auto, using(crate::specs::OrderSteps::number_read))]
     pub fn number(self, place: usize) -> u32
         ensures { result ≡ number_at self place }
     {
-        if place < NUMBERS {
-            self.numbers[place]
-        } else {
-            0
-        }
+        self.numbers.get(place).copied().unwrap_or(0)
     }
 
     // An offset. The largest number that one can be stands for every larger one: both are refused.
+    #[tactic(auto, using(crate::specs::OrderSteps::offset_of))]
     pub fn offset(self, place: usize) -> u16
         ensures { result ≡ offset_at self place }
     {
@@ -69,7 +71,9 @@ impl<C: Copy> Order<C> {
     }
 }
 
-// What a word is if it does not suit the name that stands for it.
+// What a word is if it does not suit the name that stands for it; it tells the kind of the name.
+// Stays `Wrong`: an enum of kinds would have the same variants, and a `From` beside them.
+#[tactic(auto, unfolding(crate::specs::Text::next_word, crate::specs::Text::pass_over, crate::specs::Text::leading, crate::specs::Text::is_blank, crate::specs::Text::bytes_from))]
 fn unsuited(usage: &[u8], name: Span) -> Wrong
     ensures { (result ≡ LongName) → same_bytes (bytes_of usage.now name) file_name ≡ true }
 {
@@ -97,15 +101,15 @@ fn unsuited(usage: &[u8], name: Span) -> Wrong
     Wrong::NoNumber
 }
 
-// The least number that suits, and the largest.
-fn suiting(unsuited: Wrong) -> (u32, u32) {
+// The numbers that suit.
+fn suiting(unsuited: Wrong) -> RangeInclusive<u32> {
     match unsuited {
-        Wrong::NoSide => (0, 2),
-        Wrong::NoRelease => (1, 2),
-        Wrong::NoEndSide | Wrong::NoFlag => (0, 1),
-        Wrong::NoSlot => (0, 1023),
-        Wrong::NoTime => (0, 65535),
-        _ => (0, u32::MAX),
+        Wrong::NoSide => 0..=2,
+        Wrong::NoRelease => 1..=2,
+        Wrong::NoEndSide | Wrong::NoFlag => 0..=1,
+        Wrong::NoSlot => 0..=1023,
+        Wrong::NoTime => 0..=65535,
+        _ => 0..=u32::MAX,
     }
 }
 
@@ -121,15 +125,13 @@ fn value_as(text: &[u8], word: Span, usage: &[u8], name: Span) -> Result<u32, Wr
             Err(wrong)
         };
     }
-    let value = number_of(text, word).ok_or(wrong)?;
-    let (least, most) = suiting(wrong);
-    if value < least || most < value {
-        return Err(wrong);
-    }
-    Ok(value)
+    number_of(text, word)
+        .filter(|value| suiting(wrong).contains(value))
+        .ok_or(wrong)
 }
 
 // An order with the numbers after a line's first word, one for each name after the row's first word.
+#[tactic(auto, using(crate::specs::OrderSteps::reading_end))]
 fn with_numbers<C: Copy>(
     command: C,
     text: &[u8],
@@ -158,6 +160,7 @@ fn with_numbers<C: Copy>(
 
 // An order with a list after a line's first word: so many numbers for each entry, with the names of the row's first entry, and as many
 // entries as there are.
+#[tactic(auto, using(crate::specs::OrderSteps::asks_start))]
 fn with_list<C: Copy>(
     command: C,
     text: &[u8],

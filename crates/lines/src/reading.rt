@@ -25,7 +25,7 @@ pub struct Reader {
     held: usize,
 }
 
-// Stores a byte; outside nothing changes. Nothing calls it; it stays, since a public function keeps its promise.
+// Stores a byte; outside nothing changes. Nothing calls it; it stays by the rule of the project that a public function keeps its promise.
 pub fn put_byte(buffer: &mut [u8], at: usize, byte: u8)
     ensures { buffer.new ≡ set buffer.old at byte }
 {

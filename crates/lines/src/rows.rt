@@ -10,11 +10,12 @@ pub fn row_of<C: Copy>(
     heard: Heard,
     word: Span,
 ) -> Option<(C, &'static [u8])> {
-    for row in rows {
-        if same_word(heard.text, word, row.1, next_word(row.1, 0)) {
-            return Some((row.0, row.1));
-        }
+    let found = rows
+        .iter()
+        .find(|row| same_word(heard.text, word, row.1, next_word(row.1, 0)))
+        .copied();
+    if found.is_none() {
+        show_bad(rt, heard.number, Wrong::UnknownCommand, b"help lists them");
     }
-    show_bad(rt, heard.number, Wrong::UnknownCommand, b"help lists them");
-    None
+    found
 }

@@ -1,9 +1,11 @@
 // Lines, words and numbers in a text. Blanks, tabs and newlines stand between words.
-ghost use Rattle.std.specs.Prelude.{◌≡◌, ◌-◌, leb, get_or};
+ghost use Rattle.std.specs.Prelude.{◌≡◌, ◌-◌, leb, get_or, not, position};
+ghost use Rattle.std.specs.Bool.{beq};
 ghost use Rattle.lines.specs.Text.{is_blank, bytes_of, part_of, line_of, pass_over, next_word, LineEnd, same_bytes, no_value, value_or_none, number_said, number_or_zero};
 ghost use Rattle.lines.specs.TextSteps.{with_digit};
 
 // A part of a text: a word up to the blank after it, or a line up to its newline. Stays two places beside the text, no slice: the next word is sought from its end on.
+// Stays without its text: a struct with it would lend the reader's buffer, which is filled again while a line's places are kept.
 #[derive(Clone, Copy)]
 pub struct Span {
     pub from: usize,
@@ -18,16 +20,15 @@ pub fn byte_at(text: &[u8], at: usize) -> u8
 }
 
 // A part of a text; an empty one where there is no such part.
+#[tactic(auto, using(crate::specs::TextSteps::part_within, crate::specs::TextSteps::part_missing))]
 pub fn part(text: &[u8], span: Span) -> &[u8]
     ensures { result.now ≡ part_of text.now span }
 {
-    match text.get(span.from..span.to) {
-        Some(part) => part,
-        None => &[],
-    }
+    text.get(span.from..span.to).unwrap_or(&[])
 }
 
 // A line without a carriage return at its end.
+#[tactic(auto, using(crate::specs::TextSteps::line_cut, crate::specs::TextSteps::line_empty, crate::specs::TextSteps::line_whole))]
 pub fn line_of(text: &[u8]) -> &[u8]
     ensures { result.now ≡ line_of text.now }
 {
@@ -48,12 +49,9 @@ pub fn line_part(text: &[u8], span: Span) -> &[u8]
 pub fn line_end(text: &[u8], from: usize, to: usize) -> usize
     ensures { LineEnd text.now from to result }
 {
-    for at in from..to {
-        if byte_at(text, at) == b'\n' {
-            return at;
-        }
-    }
-    to
+    (from..to)
+        .find(|at| byte_at(text, *at) == b'\n')
+        .unwrap_or(to)
 }
 
 #[tactic(auto, unfolding(crate::specs::Text::is_blank))]
@@ -63,19 +61,25 @@ fn is_blank(byte: u8) -> bool
     matches!(byte, b' ' | b'\t' | b'\n')
 }
 
+// The first byte that is no blank, or the first one.
+fn first_other(text: &[u8], blanks: bool) -> Option<usize>
+    ensures { result ≡ position (λ b. not (beq (is_blank b) blanks)) text.now }
+{
+    text.iter().position(|byte| is_blank(*byte) != blanks)
+}
+
 // The end of the blanks from a place on, or of what is no blank.
 fn pass_over(text: &[u8], from: usize, blanks: bool) -> usize
     ensures { result ≡ pass_over text.now from blanks }
 {
-    for at in from..text.len() {
-        if is_blank(text[at]) != blanks {
-            return at;
-        }
-    }
-    from.max(text.len())
+    let Some(rest) = text.get(from..) else {
+        return from;
+    };
+    from + first_other(rest, blanks).unwrap_or(rest.len())
 }
 
 // The next word from a place on; empty where no word is left.
+#[tactic(auto, unfolding(crate::specs::Text::next_word))]
 pub fn next_word(text: &[u8], from: usize) -> Span
     ensures { result ≡ next_word text.now from }
 {
@@ -100,19 +104,12 @@ impl Span {
     }
 }
 
-// Whether a word of one text is a word of another. Stays a loop, not `==` of two parts: a span may lie outside its text and reads 0 there.
+// Whether a word of one text is a word of another. Stays a test of the places, not `==` of two parts: a span may lie outside its text and reads 0 there.
 pub fn same_word(text: &[u8], word: Span, other: &[u8], name: Span) -> bool
     ensures { result ≡ same_bytes (bytes_of text.now word) (bytes_of other.now name) }
 {
-    if word.len() != name.len() {
-        return false;
-    }
-    for k in 0..word.len() {
-        if byte_at(text, word.from + k) != byte_at(other, name.from + k) {
-            return false;
-        }
-    }
-    true
+    word.len() == name.len()
+        && (0..word.len()).all(|k| byte_at(text, word.from + k) == byte_at(other, name.from + k))
 }
 
 // Whether a word of a text is this one.
@@ -123,6 +120,7 @@ pub fn is_word(text: &[u8], word: Span, name: &[u8]) -> bool
 }
 
 // One digit more, as long as the number is at most 4,294,967,295.
+#[tactic(auto, using(crate::specs::TextSteps::digit_low, crate::specs::TextSteps::digit_high))]
 fn with_digit(value: u32, byte: u8) -> Option<u32>
     ensures { value_or_none result ≡ with_digit value byte }
 {
@@ -133,6 +131,7 @@ fn with_digit(value: u32, byte: u8) -> Option<u32>
 }
 
 // The number that a word says in decimal digits. Stays a loop: `parse` takes a sign, and no empty word.
+#[tactic(auto, using(crate::specs::TextSteps::said_number, crate::specs::TextSteps::said_next, crate::specs::TextSteps::said_end))]
 pub fn number_of(text: &[u8], word: Span) -> Option<u32>
     ensures { value_or_none result ≡ number_said (bytes_of text.now word) }
 {

@@ -1,30 +1,17 @@
 -- Wires of a port counted, step by step: what the functions' proofs cite.
 use Rattle.std.specs.Prelude.{◌≡◌, refl, List, [], ◌∷◌, Bool}
-use Rattle.std.proofs.Math.Path.{sym, ap}
-use Rattle.std.proofs.Common.{◌∙◌, inl, inr, eq-eqb, ne_eqb}
-use Rattle.std.proofs.Math.Bool.{true, false}
+use Rattle.std.proofs.Math.Path.{ap}
+use Rattle.std.proofs.Common.{inl, inr}
 use Prim.Native.Nat.{ℕ, suc, ◌+◌, ◌-◌, ◌<◌, ◌≤◌, zero}
 use native.Mathlib.Omega.{arith}
 use Rattle.port_tables.specs.Tables.{at}
 use Rattle.multi_tables.specs.FanOutScans.{linked_at, linked_up, linked_down, linked_beside, wires_at_in, fan_out_in}
 use Rattle.port_tables.specs.declared.direction.Direction.{Direction}
 use Rattle.port_tables.specs.declared.direction.Direction.TheVariants.{Incoming, Outgoing}
-use Rattle.multi_tables.specs.TableReads.{run_up, run_down, count_beside, far_in, first_beside}
-use Rattle.port_tables.specs.Limits.{port_slots}
-use Rattle.multi_tables.specs.Forms.{flag_at, sum_of}
+use Rattle.multi_tables.specs.TableReads.{run_down, count_beside, first_beside}
+use Rattle.multi_tables.specs.Forms.{sum_of}
 use Rattle.port_tables.specs.Lists.{range, Member}
-use Rattle.multi_tables.specs.TableReadSteps.{down_bound}
-
--- A slot.
-
-module _ (links : List ℕ) (s a : ℕ) (e : a ≡ at links s) where
-  pub slot_linked : (a ≡ 0 → ⊥) → 1 ≡ linked_at links s
-  unfolding linked_at
-  slot_linked n = rw (ne_eqb (at links s) 0 (λ z. n (e ∙ z)))
-
-  pub slot_unlinked : a ≡ 0 → 0 ≡ linked_at links s
-  unfolding linked_at
-  slot_unlinked z = rw (eq-eqb (at links s) 0 (sym e ∙ z))
+use Rattle.multi_tables.specs.TableReadSteps.{left_one, down_bound}
 
 -- A turn of each count.
 
@@ -45,35 +32,7 @@ pub down_none : (links : List ℕ) (s : ℕ) → 0 ≡ linked_down links s 0
 unfolding linked_down
 down_none links s = refl
 
--- By side of the subports.
-
-module _ (links owners : List ℕ) (q w : ℕ) (f : w ≡ q) (d : Direction) where
-  pub beside_in : (v x r : ℕ) → d ≡ Incoming → v ≡ w - 1 → x ≡ at owners v → r ≡ linked_down links w (run_down owners x w) → r ≡ linked_beside links owners q d
-  unfolding linked_beside count_beside
-  beside_in v x r g h i j = rw (g, sym f) (j ∙ ap (λ y. linked_down links w (run_down owners y w)) (i ∙ ap (at owners) h))
-
-  pub beside_out : (x r : ℕ) → d ≡ Outgoing → x ≡ at owners (w + 1) → r ≡ linked_up links (w + 1) (run_up owners x (w + 1)) → r ≡ linked_beside links owners q d
-  unfolding linked_beside count_beside
-  beside_out x r g i j = rw (g, sym f) (j ∙ ap (λ y. linked_up links (w + 1) (run_up owners y (w + 1))) i)
-
--- A port.
-
-module _ (marks : List Bool) (links owners : List ℕ) (p w : ℕ) (d : Direction) (f : w ≡ p) (b : Bool) (k : b ≡ flag_at marks port_slots w) where
-  is_marked : (c : Bool) → b ≡ c → flag_at marks port_slots p ≡ c
-  is_marked c g = ap (flag_at marks port_slots) (sym f) ∙ (sym k ∙ g)
-
-  pub wires_split : (q r : ℕ) → b ≡ true → q ≡ far_in links w → r ≡ linked_beside links owners q d → r ≡ wires_at_in marks links owners p d
-  unfolding wires_at_in
-  wires_split q r g h i = rw (is_marked true g) (i ∙ ap (λ y. linked_beside links owners y d) (h ∙ ap (far_in links) f))
-
-  pub wires_plain : (r : ℕ) → b ≡ false → r ≡ linked_at links w → r ≡ wires_at_in marks links owners p d
-  unfolding wires_at_in
-  wires_plain r g h = rw (is_marked false g) (h ∙ ap (linked_at links) f)
-
 -- A row of ports.
-
-one_less : (p stop : ℕ) → p < stop → stop - p ≡ suc (stop - (p + 1))
-one_less p stop h = omega arith
 
 module _ (marks : List Bool) (links owners : List ℕ) (p stop sum : ℕ) where
   pub fan_out_turn : (c : ℕ) → p < stop → c ≡ wires_at_in marks links owners p Outgoing
@@ -81,7 +40,7 @@ module _ (marks : List Bool) (links owners : List ℕ) (p stop sum : ℕ) where
   unfolding fan_out_in sum_of range
   fan_out_turn c h e =
       let a : p + 1 ≡ suc p = omega arith in
-      rw (one_less p stop h, a) (omega arith)
+      rw (left_one p stop h, a) (omega arith)
 
   pub fan_out_done : stop ≤ p → sum ≡ sum + fan_out_in marks links owners p (stop - p)
   unfolding fan_out_in sum_of range

@@ -1,89 +1,28 @@
 -- Readings, marks and flags, step by step: what the functions' proofs cite.
-use Rattle.std.specs.Prelude.{◌≡◌, refl, true, false, Bool, cond, List, [], ◌∷◌, ℕ, ◌<◌, ◌≤◌, zero, suc, ◌+◌, ◌-◌, get_or, set, length, ltb, Some, None}
-use Rattle.std.proofs.Common.{ap, ◌∙◌, sym, arith, lt-ltb, le-ltb, ltb-false, eq-eqb, ne_eqb}
-use Rattle.multi_tables.specs.Forms.{Port, dead, hidden, visible, seen_as, End, inner, lacking, end_as, good_offset, flag_at, put_flag, lowest_unlinked}
-use Rattle.port_tables.specs.declared.direction.Direction.{Direction}
-use Rattle.multi_tables.specs.declared.seen.SeenPort.{SeenPort}
-use Rattle.port_tables.specs.declared.index.NodeIndex.{NodeIndex}
-use Rattle.port_tables.specs.Tables.{fill, at}
+use Rattle.port_tables.specs.Limits.{port_slots}
+use Rattle.port_tables.specs.TableSteps.{at_inside}
+use Rattle.std.specs.Prelude.{not, eqb, unwrap_or}
+use Rattle.std.specs.List.{position, position_or_len}
+use Rattle.std.proofs.Common.{length-take-le}
+use Rattle.std.proofs.lemmas.List.Sums.{prefix_len-le-length}
+use Rattle.std.proofs.Math.Seq.{drop-cons}
+use Rattle.std.proofs.Math.ListN.{take}
+use Rattle.std.specs.Prelude.{◌≡◌, refl, true, false, Bool, cond, List, ℕ, ◌<◌, ◌≤◌, zero, suc, ◌+◌, get_or, set, length, ltb, Some, None}
+use Rattle.std.proofs.Common.{ap, ◌∙◌, sym, arith, lt-ltb, ltb-false}
+use Rattle.multi_tables.specs.Forms.{flag_at, put_flag, lowest_unlinked}
+use Rattle.port_tables.specs.Tables.{fill}
 use Rattle.port_tables.specs.TableSteps.{fill_none, fill_more}
 use Rattle.std.proofs.Math.ListN.{replicate, drop}
 use Rattle.std.proofs.Math.Seq.{paste, paste-zero, paste-suc}
-use Rattle.std.proofs.lemmas.List.{get_or-replicate, length-replicate, length-take, length-drop}
+use Rattle.std.proofs.lemmas.List.{get_or_past, set_past, get_or-replicate, length-replicate, length-take, length-drop}
 use Rattle.std.proofs.lemmas.Slice.{put_mid-paste}
 use borrow.Rule.Slice.PartMut.{mid_of, put_mid}
-use Rattle.multi_tables.specs.declared.seen.SeenPort.TheVariants as seen_port
-
--- What a read port or end was.
-
-pub was_dead : (s : Port) → seen_as s ≡ seen_port.Dead → s ≡ dead
-was_dead dead e = refl
-was_dead hidden e = let z : ◌≡◌ {A = ℕ} 0 1 = cc in absurd (omega arith)
-was_dead (visible n d) e = let z : ◌≡◌ {A = ℕ} 0 1 = cc in absurd (omega arith)
-
-pub was_hidden : (s : Port) → seen_as s ≡ seen_port.Hidden → s ≡ hidden
-was_hidden dead e = let z : ◌≡◌ {A = ℕ} 0 1 = cc in absurd (omega arith)
-was_hidden hidden e = refl
-was_hidden (visible n d) e = let z : ◌≡◌ {A = ℕ} 0 1 = cc in absurd (omega arith)
-
-abbrev side_of : SeenPort → Direction → Direction
-side_of seen_port.Dead d = d
-side_of seen_port.Hidden d = d
-side_of (seen_port.Visible n e) d = e
-
-abbrev node_of : SeenPort → ℕ
-node_of seen_port.Dead = 0
-node_of seen_port.Hidden = 0
-node_of (seen_port.Visible n e) = n.0
-
-pub was_visible : (s : Port) (n : NodeIndex) (d : Direction) → seen_as s ≡ seen_port.Visible n d → s ≡ visible n.0 d
-was_visible dead n d e = let z : ◌≡◌ {A = ℕ} 0 1 = cc in absurd (omega arith)
-was_visible hidden n d e = let z : ◌≡◌ {A = ℕ} 0 1 = cc in absurd (omega arith)
-was_visible (visible k f) n d e =
-    ap (λ x. visible x f) (ap node_of e) ∙ ap (visible n.0) (ap (λ x. side_of x d) e)
-
-pub was_at : (s : End) (x : ℕ) → end_as s ≡ Some x → s ≡ inner x
-was_at (inner q) x e = let f : q ≡ x = cc in ap inner f
-was_at lacking x e = let z : ◌≡◌ {A = ℕ} 0 1 = cc in absurd (omega arith)
-
-pub was_lacking : (s : End) → end_as s ≡ None → s ≡ lacking
-was_lacking (inner q) e = let z : ◌≡◌ {A = ℕ} 0 1 = cc in absurd (omega arith)
-was_lacking lacking e = refl
-
--- an offset that is one
-pub good_offset_lem : (o : ℕ) → o < 65536 → (o ≡ 65535 → ⊥) → good_offset o ≡ true
-good_offset_lem o h f = lt-ltb o 65535 (omega arith)
-
-pub bad_offset : (o : ℕ) → o ≡ 65535 → good_offset o ≡ false
-bad_offset o e = le-ltb o 65535 (omega arith)
 
 -- Flags in a table of a size.
 
 pub flag_inside : (t : List Bool) (size i : ℕ) → i < size → get_or t i false ≡ flag_at t size i
 unfolding flag_at
 flag_inside t size i h = rw (lt-ltb i size h)
-
-pub flag_outside : (t : List Bool) (size i : ℕ) → size ≤ i → false ≡ flag_at t size i
-unfolding flag_at
-flag_outside t size i h = rw (le-ltb i size h)
-
-pub put_flag_inside : (t : List Bool) (size i : ℕ) (b : Bool) → i < size → set t i b ≡ put_flag t size i b
-unfolding put_flag
-put_flag_inside t size i b h = rw (lt-ltb i size h)
-
-pub put_flag_outside : (t : List Bool) (size i : ℕ) (b : Bool) → size ≤ i → t ≡ put_flag t size i b
-unfolding put_flag
-put_flag_outside t size i b h = rw (le-ltb i size h)
-
-get_d_past : (t : List Bool) (i : ℕ) → length t ≤ i → get_or t i false ≡ false
-get_d_past [] i h = refl
-get_d_past (x ∷ t) zero h = absurd (omega arith)
-get_d_past (x ∷ t) (suc i) h = get_d_past t i (omega arith)
-
-set_past : (t : List Bool) (i : ℕ) (b : Bool) → length t ≤ i → set t i b ≡ t
-set_past [] i b h = refl
-set_past (x ∷ t) zero b h = absurd (omega arith)
-set_past (x ∷ t) (suc i) b h = ap (λ r. x ∷ r) (set_past t i b (omega arith))
 
 -- a table of that size reads and stores as a list does
 flag_by : (t : List Bool) (size i : ℕ) (q : Bool) → ltb i size ≡ q → (size ≤ i → get_or t i false ≡ false) → (q ≡ false → size ≤ i) → cond q (get_or t i false) false ≡ get_or t i false
@@ -96,7 +35,7 @@ put_by t size i b false e f g = sym (f (g refl))
 
 pub flag_is : (t : List Bool) (size i : ℕ) → length t ≡ size → flag_at t size i ≡ get_or t i false
 unfolding flag_at
-flag_is t size i e = flag_by t size i (ltb i size) refl (λ h. get_d_past t i (omega arith)) (λ h. ltb-false i size h)
+flag_is t size i e = flag_by t size i (ltb i size) refl (λ h. get_or_past t i false (omega arith)) (λ h. ltb-false i size h)
 
 pub put_flag_is : (t : List Bool) (size i : ℕ) (b : Bool) → length t ≡ size → put_flag t size i b ≡ set t i b
 unfolding put_flag
@@ -117,20 +56,37 @@ part_filled t x i k n v e fit f =
     let long : length (mid_of i k t) ≡ n = omega (arith, length-take k (drop i t), length-drop i t) in
     put_mid-paste i k t x (replicate n v) n (f ∙ ap (λ (m : ℕ). replicate m v) long) (sym e) (sym (length-replicate n v)) ∙ filled t i n n v fit (omega arith)
 
--- The loop of lowest_unlinked.
+-- The search of lowest_unlinked.
 
-left_one : (o n : ℕ) → o < n → n - o ≡ suc (n - (o + 1))
-left_one o n h = omega arith
-
-pub lowest_stop : (t : List ℕ) (f o n : ℕ) → o < n → at t (f + o) ≡ 0 → o ≡ lowest_unlinked t f o (n - o)
+lowest_in : (t : List ℕ) (f o n : ℕ) → f + o + n ≤ port_slots → length t ≡ port_slots → o + position_or_len (λ x. eqb x 0) (take n (drop (f + o) t)) ≡ lowest_unlinked t f o n
 unfolding lowest_unlinked
-lowest_stop t f o n h e = rw (left_one o n h, eq-eqb (at t (f + o)) 0 e)
+lowest_in t f o zero h k = omega arith
+lowest_in t f o (suc n) h k =
+    let within : f + o < length t = omega arith in
+    let next : suc (f + o) ≡ f + suc o = omega arith in
+    rw (drop-cons t (f + o) 0, sym (at_inside t (f + o) (omega arith)), next) (go (eqb (get_or t (f + o) 0) 0) (lowest_in t f (suc o) n (omega arith) k))
+  where
+    go : (b : Bool) → suc o + position_or_len (λ x. eqb x 0) (take n (drop (f + suc o) t)) ≡ lowest_unlinked t f (suc o) n
+        → o + cond (not b) (1 + position_or_len (λ x. eqb x 0) (take n (drop (f + suc o) t))) 0 ≡ cond b o (lowest_unlinked t f (suc o) n)
+    go true e = omega arith
+    go false e = omega arith
 
-pub lowest_turn : (t : List ℕ) (f o n : ℕ) → o < n → (at t (f + o) ≡ 0 → ⊥) → lowest_unlinked t f o (n - o) ≡ lowest_unlinked t f (o + 1) (n - (o + 1))
-unfolding lowest_unlinked
-lowest_turn t f o n h e =
-    rw (left_one o n h, ne_eqb (at t (f + o)) 0 e) (ap (λ (k : ℕ). lowest_unlinked t f k (n - (o + 1))) (omega arith))
+pub lowest_found : (t : List ℕ) (f n : ℕ) → f + n ≤ port_slots → length t ≡ port_slots → unwrap_or (position (λ x. eqb x 0) (take n (drop f t))) n ≡ lowest_unlinked t f 0 n
+lowest_found t f n h k = go (ltb (position_or_len (λ x. eqb x 0) (take n (drop f t))) (length (take n (drop f t)))) refl
+  where
+    left : position_or_len (λ x. eqb x 0) (take n (drop f t)) ≡ lowest_unlinked t f 0 n
+    left =
+        let z : f + 0 ≡ f = omega arith in
+        let e = rw z at (lowest_in t f 0 n (omega arith) k) in
+        omega arith
 
-pub lowest_end : (t : List ℕ) (f o n : ℕ) → n ≤ o → lowest_unlinked t f o (n - o) ≡ o
-unfolding lowest_unlinked
-lowest_end t f o n h = let e : n - o ≡ zero = omega arith in rw e
+    go : (b : Bool) → ltb (position_or_len (λ x. eqb x 0) (take n (drop f t))) (length (take n (drop f t))) ≡ b
+        → unwrap_or (cond b (Some (position_or_len (λ x. eqb x 0) (take n (drop f t)))) None) n ≡ lowest_unlinked t f 0 n
+    go true p = left
+    go false p =
+        let long = length-drop f t in
+        let all = length-take-le n (drop f t) (omega arith) in
+        let most = prefix_len-le-length (λ (x : ℕ). not (eqb x 0)) (take n (drop f t)) in
+        let past = ltb-false (position_or_len (λ x. eqb x 0) (take n (drop f t))) (length (take n (drop f t))) p in
+        let e = left in
+        omega arith

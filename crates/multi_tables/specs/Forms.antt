@@ -3,6 +3,7 @@ use Rattle.std.specs.Prelude.{Bool, false, cond, true, List, [], ◌∷◌, ℕ,
 use Rattle.port_tables.specs.Tables.{fill, at}
 use Rattle.port_tables.specs.declared.node_entry.NodeMeta.{NodeMeta}
 use Rattle.port_tables.specs.Entries.{node#, port#}
+pub use Rattle.port_tables.specs.Entries.{node_number}
 use Rattle.multi_tables.specs.declared.seen.SeenPort.{SeenPort}
 use Rattle.port_tables.specs.declared.direction.Direction.{Direction}
 use Rattle.multi_tables.specs.declared.answers.SubportIndex.{SubportIndex}
@@ -10,7 +11,6 @@ use Rattle.port_tables.specs.declared.release.Release.{Release}
 use Rattle.multi_tables.specs.declared.answers.SubportLink.{SubportLink}
 use Rattle.multi_tables.specs.declared.seen.SeenPort.TheVariants as seen_port
 use Rattle.port_tables.specs.declared.release.Release.TheVariants as release
-use Rattle.port_tables.specs.declared.index.NodeIndex.{NodeIndex}
 use Rattle.multi_tables.specs.declared.answers.Refusal.{Refusal}
 use Rattle.multi_tables.specs.declared.answers.PortPlace.{PortPlace}
 
@@ -69,10 +69,6 @@ lay_marks marks a b =
     (fill (fill marks a.first_port.0 (a.incoming + a.outgoing) false) b.first_port.0 (b.incoming + b.outgoing) false)
     marks a.first_port.0 b.first_port.0 (min a.incoming b.incoming))
     marks (a.first_port.0 + a.incoming) (b.first_port.0 + b.incoming) (min a.outgoing b.outgoing)
-
-abbrev pub node_number : Option NodeIndex → ℕ
-node_number (Some n) = n.0
-node_number None = 0
 
 -- a port number: not live, of a hidden node, or of a block, with its node and side
 pub data Port : Type 0 where

@@ -1,5 +1,5 @@
 -- What a call names, read off the tables: the inner ports of its ends or the refusal, and what an end needs before it can take a link.
-use Rattle.std.specs.Prelude.{cond, Bool, List, ℕ, ◌+◌, eqb, ltb, leb, Result, Ok, Err}
+use Rattle.std.specs.Prelude.{cond, Bool, List, ℕ, ◌+◌, eqb, ltb, leb, Option, Some, None, Result, Ok, Err}
 use Rattle.port_tables.specs.Entries.{node#, port#, same_side}
 use Rattle.multi_tables.specs.Forms.{Port, dead, hidden, visible, End, inner, lacking, good_offset, subport#, flag_at, lowest_unlinked}
 use Rattle.multi_tables.specs.declared.answers.Refusal.{Refusal}
@@ -140,6 +140,13 @@ unfoldable pub read_in : List Bool → ℕ → ℕ → SubportIndex
 read_in marks p o = subport# p (cond (flag_at marks port_slots p) o 0)
 
 -- Preparing an end: ready as it is, one more subport, or a split.
+
+-- the inner port and the offset of the lowest unlinked one of so many slots from the first on; none where all have a link, or they lie outside the table
+unfoldable pub free_end : List ℕ → ℕ → ℕ → Option (ℕ × ℕ)
+free_end links first count =
+    cond (leb (first + count) port_slots)
+    (cond (ltb (lowest_unlinked links first 0 count) count) (Some (first + lowest_unlinked links first 0 count, lowest_unlinked links first 0 count)) None)
+    None
 
 unfoldable pub reuse_at : ℕ → ℕ → ℕ → EndNeed
 reuse_at first count o = cond (ltb o count) (need.Ready (first + o) o) need.Grow

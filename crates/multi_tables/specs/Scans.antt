@@ -44,7 +44,7 @@ not_own_output n (seen_port.Visible k d) = cond (eqb k.0 n) (same_side d Incomin
 
 abbrev pub passes_in : List ℕ → List Bool → LinkFilter → ℕ → Bool
 passes_in owners flags filters.All p = true
-passes_in owners flags (filters.Skip lo hi) p = cond (leb lo p) (leb hi p) true
+passes_in owners flags (filters.Skip r) p = cond (leb r.from p) (leb r.to p) true
 passes_in owners flags (filters.NotOutputOf n) p = not_own_output n.0 (seen_as (seen_in owners flags p))
 passes_in owners flags (filters.To n) p = eqb (owner_in owners p) n.0
 

@@ -1,23 +1,20 @@
 -- Steps of the leaves that read lent tables, over plain values.
-use Rattle.std.specs.Prelude.{Bool, ◌≡◌, List, eqb, Option, Some, None, Ok}
+use Rattle.std.specs.Prelude.{Bool, ◌≡◌, List, eqb, Option, Some, None, MatchOption, unwrap_or, Result, Ok, Err}
 use Rattle.std.proofs.Math.Bool.{true, false, cond}
-use Rattle.std.proofs.Math.Path.{sym, ap}
+use Rattle.std.proofs.Math.Path.{refl, sym, ap}
 use Rattle.std.proofs.Common.{◌∙◌}
 use Prim.Native.Nat.{ℕ, zero, suc, ◌≤◌, ◌+◌, ◌-◌, ◌<◌, ◌*◌, ◌/◌, min}
 use native.Mathlib.Omega.{arith}
-use borrow.Author.Tests.{eq-eqb, ne_eqb, lt-ltb, le-ltb}
-use Rattle.multi_tables.specs.TableReads.{in_row, owns_up, owns_down, run_up, run_down, leaps_down, leap_down, row_below, far_in, count_beside, first_beside, end_beside, copy_beside, subports_in, first_in, end_in, seen_owner, seen_in, subport_owned, subport_in, no_place, place_owned, place_in, wire_in, wire_end_in, plain_in}
-use Rattle.port_tables.specs.Limits.{port_slots, node_slots}
+use borrow.Author.Tests.{eq-eqb, ne_eqb}
+use Rattle.multi_tables.specs.TableReads.{in_row, owns_up, owns_down, run_up, run_down, leaps_down, leap_down, row_below, far_in, count_beside, subports_in, subport_in, place_in, far_place_in, wire_in, wire_end_in, plain_in}
+use Rattle.port_tables.specs.Limits.{port_slots}
 use Rattle.port_tables.specs.Tables.{at}
 use Rattle.port_tables.specs.declared.direction.Direction.{Direction}
 use Rattle.port_tables.specs.declared.direction.Direction.TheVariants.{Incoming, Outgoing}
-use Rattle.multi_tables.specs.Forms.{end_as, flag_at, hidden, visible, subport#, seen_as}
-use Rattle.port_tables.specs.Entries.{port_entry}
-use Rattle.port_tables.specs.declared.port_entry.PortMeta.{PortMeta}
+use Rattle.multi_tables.specs.Forms.{subport#}
 use Rattle.multi_tables.specs.declared.answers.PortPlace.{PortPlace}
 use Rattle.multi_tables.specs.declared.answers.SubportIndex.{SubportIndex}
-use Rattle.multi_tables.specs.declared.seen.SeenPort.TheVariants as seen_port
-use Rattle.port_tables.specs.declared.port_entry.PortEntry.TheVariants as port_variants
+use Rattle.multi_tables.specs.declared.answers.Refusal.{Refusal}
 
 -- The loop of a run.
 
@@ -30,7 +27,28 @@ run_bound t i (suc n) = go (t i) (run_bound t (suc i) n)
     go true h = omega arith
     go false h = omega arith
 
-left_one : (k n : ℕ) → k < n → n - k ≡ suc (n - (k + 1))
+-- what a search finds where the test first fails
+row_all : (t : ℕ → Bool) (p n : ℕ) → ((k : ℕ) → p ≤ k → k < p + n → t k ≡ true) → in_row t p n ≡ n
+unfolding in_row
+row_all t p zero h = refl
+row_all t p (suc n) h = rw (h p (omega arith) (omega arith), row_all t (suc p) n (λ k a b. h k (omega arith) (omega arith))) refl
+
+row_stops : (t : ℕ → Bool) (p n d : ℕ) → d < n → t (p + d) ≡ false → ((k : ℕ) → p ≤ k → k < p + d → t k ≡ true) → in_row t p n ≡ d
+unfolding in_row
+row_stops t p zero d b e h = absurd (omega arith)
+row_stops t p (suc n) zero b e h = let z : p + 0 ≡ p = omega arith in rw (rw z at e) refl
+row_stops t p (suc n) (suc d) b e h =
+    let s : p + suc d ≡ suc p + d = omega arith in
+    rw (h p (omega arith) (omega arith), row_stops t (suc p) n d (omega arith) (rw s at e) (λ k a g. h k (omega arith) (omega arith))) refl
+
+pub row_found : (t : ℕ → Bool) (n : ℕ) (r : Option ℕ) → MatchOption r ((k : ℕ) → 0 ≤ k → k < n → t k ≡ true) (λ i. (0 ≤ i) × (i < n) × (t i ≡ false) × ((k : ℕ) → 0 ≤ k → k < i → t k ≡ true))
+    → unwrap_or r n ≡ in_row t 0 n
+row_found t n None h = sym (row_all t 0 n (λ k a b. h k (omega arith) (omega arith)))
+row_found t n (Some i) (low, high, hit, passed) =
+    let z : 0 + i ≡ i = omega arith in
+    sym (row_stops t 0 n i high (rw z hit) (λ k a b. passed k a (omega arith)))
+
+pub left_one : (k n : ℕ) → k < n → n - k ≡ suc (n - (k + 1))
 left_one k n h = omega arith
 
 pub run_turn : (t : ℕ → Bool) (k n : ℕ) → k < n → t k ≡ true → k + in_row t k (n - k) ≡ k + 1 + in_row t (k + 1) (n - (k + 1))
@@ -46,10 +64,6 @@ run_stop t k n h e = rw (left_one k n h, e) (omega arith)
 pub run_end : (t : ℕ → Bool) (k n : ℕ) → n ≤ k → k + in_row t k (n - k) ≡ k
 unfolding in_row
 run_end t k n h = let e : n - k ≡ zero = omega arith in rw e (omega arith)
-
--- the run is as long as it can be
-pub run_all : (t : ℕ → Bool) (k n : ℕ) → k ≡ n → n ≡ k + in_row t k (n - k)
-run_all t k n e = sym (run_end t k n (omega arith) ∙ e)
 
 module _ (t : List ℕ) (x i : ℕ) where
   pub up_start : run_up t x i ≡ 0 + in_row (owns_up t x i) 0 (port_slots - 0)
@@ -84,19 +98,6 @@ module _ (t : List ℕ) (x i : ℕ) where
   unfolding run_down
   down_bound = run_bound (owns_down t x i) 0 (min i port_slots)
 
-  -- leaps
-  pub leap_start : (n : ℕ) → n ≡ min i port_slots / 32 → leap_down t x i ≡ 0 + in_row (leaps_down t x i) 0 (n - 0)
-  unfolding leap_down
-  leap_start n e = let z : n - 0 ≡ min i port_slots / 32 = omega arith in rw z (omega arith)
-
-  pub leap_yes : (k a : ℕ) → a ≡ at t (i - 32 * (k + 1)) → a ≡ x → leaps_down t x i k ≡ true
-  unfolding leaps_down
-  leap_yes k a e f = let s : k + 1 ≡ suc k = omega arith in eq-eqb (at t (i - 32 * suc k)) x (ap (λ n. at t (i - 32 * n)) (sym s) ∙ sym e ∙ f)
-
-  pub leap_no : (k a : ℕ) → a ≡ at t (i - 32 * (k + 1)) → (a ≡ x → ⊥) → leaps_down t x i k ≡ false
-  unfolding leaps_down
-  leap_no k a e f = let s : k + 1 ≡ suc k = omega arith in ne_eqb (at t (i - 32 * suc k)) x (λ z. f (e ∙ ap (λ n. at t (i - 32 * n)) s ∙ z))
-
   pub leap_bound : leap_down t x i ≤ min i port_slots / 32
   unfolding leap_down
   leap_bound = run_bound (leaps_down t x i) 0 (min i port_slots / 32)
@@ -112,186 +113,51 @@ row_bound t x i =
     let d = down_bound t x (i - 32 * leap_down t x i) in
     omega arith
 
--- One table.
+-- The same with the place, and what cutting an unsplit port answers.
+module _ (links owners : List ℕ) (flags : List Bool) (p : ℕ) where
+  -- an end that was read without its place, with it
+  abbrev pub placed : Result (Option SubportIndex) Refusal → Result (Option (SubportIndex × PortPlace)) Refusal
+  placed (Ok (Some s)) = Ok (Some (s, place_in owners s.port.0))
+  placed (Ok None) = Ok None
+  placed (Err r) = Err r
 
-pub far_found : (t : List ℕ) (s a : ℕ) → a ≡ at t s → a - 1 ≡ far_in t s
-unfolding far_in
-far_found t s a e = ap (λ n. n - 1) e
+  -- and with the inner port in place of the end
+  abbrev innermost : Result (Option (SubportIndex × PortPlace)) Refusal → Result (Option (SubportIndex × PortPlace)) Refusal
+  innermost (Ok (Some (s, x))) = Ok (Some (subport# (far_in links p) 0, x))
+  innermost (Ok None) = Ok None
+  innermost (Err r) = Err r
 
-pub far_missing : (t : List ℕ) (s a : ℕ) → a ≡ at t s → a ≡ 0 → 0 ≡ far_in t s
-unfolding far_in
-far_missing t s a e z = let h : 0 ≡ a - 1 = omega arith in h ∙ ap (λ n. n - 1) e
+  pub wire_placed : placed (wire_end_in links owners flags p) ≡ wire_in links owners flags p
+  unfolding wire_end_in wire_in
+  wire_placed = go (eqb (at links p) 0)
+    where
+      go : (b : Bool) → placed (cond b (Ok None) (Ok (Some (subport_in links owners flags (far_in links p)))))
+          ≡ cond b (Ok None) (Ok (Some (subport_in links owners flags (far_in links p), far_place_in links owners flags (far_in links p))))
+      go true = refl
+      go false = refl
 
-module _ (t : List ℕ) (q w : ℕ) (e : w ≡ q) where
-  pub count_in_lem : (d : Direction) (s a r : ℕ) → d ≡ Incoming → s ≡ w - 1 → a ≡ at t s → r ≡ run_down t a w → r ≡ count_beside t q d
-  unfolding count_beside
-  count_in_lem d s a r f g h k = rw (k, h, g, e, f)
+  wire_inside : innermost (wire_in links owners flags p) ≡ plain_in links owners flags p
+  unfolding wire_in plain_in
+  wire_inside = go (eqb (at links p) 0)
+    where
+      go : (b : Bool) → innermost (cond b (Ok None) (Ok (Some (subport_in links owners flags (far_in links p), far_place_in links owners flags (far_in links p)))))
+          ≡ cond b (Ok None) (Ok (Some (subport# (far_in links p) 0, far_place_in links owners flags (far_in links p))))
+      go true = refl
+      go false = refl
 
-  pub count_out : (d : Direction) (a r : ℕ) → d ≡ Outgoing → a ≡ at t (w + 1) → r ≡ run_up t a (w + 1) → r ≡ count_beside t q d
-  unfolding count_beside
-  count_out d a r f g h = rw (h, g, e, f)
+  pub wire_none : {r : Option SubportIndex} → Ok r ≡ wire_end_in links owners flags p → r ≡ None → Ok None ≡ wire_in links owners flags p
+  wire_none e h = ap placed (ap Ok (sym h) ∙ e) ∙ wire_placed
 
-  pub first_in_lem : (d : Direction) (n r : ℕ) → d ≡ Incoming → n ≡ count_beside t q d → r ≡ w - n → r ≡ first_beside t q d
-  unfolding first_beside
-  first_in_lem d n r f g h = rw (h, g, e, f)
-
-  pub first_out : (d : Direction) → d ≡ Outgoing → w + 1 ≡ first_beside t q d
-  unfolding first_beside
-  first_out d f = rw (e, f)
-
-  module _ (d : Direction) (o v : ℕ) (u : v ≡ o) where
-    pub end_in_lem : (n s : ℕ) → d ≡ Incoming → n ≡ count_beside t q d → v < n → s ≡ w - n → Some (s + v) ≡ end_as (end_beside t q d o)
-    unfolding end_beside first_beside
-    end_in_lem n s f g l h =
-        let k : count_beside t q Incoming ≡ n = sym (g ∙ ap (count_beside t q) f) in
-        rw (f, k, lt-ltb o n (omega arith), h, e, u)
-
-    pub end_in_lacking : (n : ℕ) → d ≡ Incoming → n ≡ count_beside t q d → n ≤ v → None ≡ end_as (end_beside t q d o)
-    unfolding end_beside
-    end_in_lacking n f g l =
-        let k : count_beside t q Incoming ≡ n = sym (g ∙ ap (count_beside t q) f) in
-        rw (f, k, le-ltb o n (omega arith))
-
-    pub end_out : (a b : ℕ) → d ≡ Outgoing → w + 1 + v < port_slots → a ≡ at t (w + 1 + v) → b ≡ at t (w + 1) → a ≡ b → Some (w + 1 + v) ≡ end_as (end_beside t q d o)
-    unfolding end_beside
-    end_out a b f l g h k =
-        let s : at t (q + 1 + o) ≡ at t (q + 1) = rw (← e, ← u) (sym g ∙ k ∙ h) in
-        rw (f, lt-ltb (q + 1 + o) port_slots (omega arith), eq-eqb (at t (q + 1 + o)) (at t (q + 1)) s, e, u)
-
-    pub end_out_lacking : (a b : ℕ) → d ≡ Outgoing → w + 1 + v < port_slots → a ≡ at t (w + 1 + v) → b ≡ at t (w + 1) → (a ≡ b → ⊥) → None ≡ end_as (end_beside t q d o)
-    unfolding end_beside
-    end_out_lacking a b f l g h k =
-        let s : at t (q + 1 + o) ≡ at t (q + 1) → ⊥ = λ z. k (g ∙ (rw (e, u) z ∙ sym h)) in
-        rw (f, lt-ltb (q + 1 + o) port_slots (omega arith), ne_eqb (at t (q + 1 + o)) (at t (q + 1)) s)
-
-    pub end_out_past : d ≡ Outgoing → port_slots ≤ w + 1 + v → None ≡ end_as (end_beside t q d o)
-    unfolding end_beside
-    end_out_past f l = rw (f, le-ltb (q + 1 + o) port_slots (omega arith))
-
-  module _ (a : ℕ) (f : a ≡ at t w) where
-    pub copy_incoming : (d : Direction) (n : ℕ) → d ≡ Incoming → n ≡ run_up t a w → w + n ≡ copy_beside t q d
-    unfolding copy_beside
-    copy_incoming d n g h = rw (g, h, f, e)
-
-    pub copy_outgoing_lem : (d : Direction) (n s r : ℕ) → d ≡ Outgoing → n ≡ run_down t a w → s ≡ w - n → r ≡ s - 1 → r ≡ copy_beside t q d
-    unfolding copy_beside
-    copy_outgoing_lem d n s r g h k l = rw (l, k, h, f, g, e)
-
--- Two tables and more.
-
-pub subports_told : (links owners : List ℕ) (p w q r : ℕ) (d : Direction) → w ≡ p → q ≡ far_in links w → r ≡ count_beside owners q d → r ≡ subports_in links owners p d
-unfolding subports_in
-subports_told links owners p w q r d e f g = rw (g, f, e)
-
-pub first_told : (links owners : List ℕ) (p w q r : ℕ) (d : Direction) → w ≡ p → q ≡ far_in links w → r ≡ first_beside owners q d → r ≡ first_in links owners p d
-unfolding first_in
-first_told links owners p w q r d e f g = rw (g, f, e)
-
-module _ (marks : List Bool) (links owners : List ℕ) (p : ℕ) (d : Direction) (o w : ℕ) (e : w ≡ p) (b : Bool) (f : b ≡ flag_at marks port_slots w) where
-  pub end_split : (v q : ℕ) (r : Option ℕ) → b ≡ true → v ≡ p → q ≡ far_in links v → r ≡ end_as (end_beside owners q d o) → r ≡ end_as (end_in marks links owners p d o)
-  unfolding end_in
-  end_split v q r g h k l =
-      let m : flag_at marks port_slots p ≡ true = ap (flag_at marks port_slots) (sym e) ∙ sym f ∙ g in
-      rw (m, l, k, h)
-
-  pub end_plain : b ≡ false → Some p ≡ end_as (end_in marks links owners p d o)
-  unfolding end_in
-  end_plain g =
-      let m : flag_at marks port_slots p ≡ false = ap (flag_at marks port_slots) (sym e) ∙ sym f ∙ g in
-      rw m
-
-module _ (owners : List ℕ) (flags : List Bool) (p w a : ℕ) (e : w ≡ p) (f : a ≡ at owners w) where
-  owner_is : port_entry a ≡ port_entry (at owners p)
-  owner_is = ap port_entry (f ∙ ap (at owners) e)
-
-  pub seen_dead : port_entry a ≡ port_variants.Free → seen_port.Dead ≡ seen_as (seen_in owners flags p)
-  unfolding seen_in
-  seen_dead g = ap (λ k. seen_as (seen_owner flags k)) (sym g ∙ owner_is)
-
-  pub unowned : (links : List ℕ) → port_entry a ≡ port_variants.Free → subport# p 0 ≡ subport_in links owners flags p
-  unfolding subport_in
-  unowned links g = ap (subport_owned links owners flags p) (sym g ∙ owner_is)
-
-  module _ (k : PortMeta) (g : port_entry a ≡ port_variants.Port k) (v : ℕ) (h : v ≡ k.node.0) (b : Bool) (l : b ≡ flag_at flags node_slots v) where
-    flag_told : (c : Bool) → b ≡ c → flag_at flags node_slots k.node.0 ≡ c
-    flag_told c n = ap (flag_at flags node_slots) (sym h) ∙ sym l ∙ n
-
-    pub seen_hidden : b ≡ true → seen_port.Hidden ≡ seen_as (seen_in owners flags p)
-    unfolding seen_in
-    seen_hidden n =
-        ap (λ (c : Bool). seen_as (cond c hidden (visible k.node.0 k.direction))) (sym (flag_told true n))
-        ∙ ap (λ x. seen_as (seen_owner flags x)) (sym g ∙ owner_is)
-
-    pub seen_visible : b ≡ false → seen_port.Visible k.node k.direction ≡ seen_as (seen_in owners flags p)
-    unfolding seen_in
-    seen_visible n =
-        ap (λ (c : Bool). seen_as (cond c hidden (visible k.node.0 k.direction))) (sym (flag_told false n))
-        ∙ ap (λ x. seen_as (seen_owner flags x)) (sym g ∙ owner_is)
-
-    pub subport_hung : (links : List ℕ) (c o u r : ℕ) → b ≡ true → c ≡ copy_beside owners p k.direction → u ≡ p → o ≡ run_down owners a u → r ≡ far_in links c
-        → subport# r o ≡ subport_in links owners flags p
-    unfolding subport_in
-    subport_hung links c o u r n s m t z =
-        let x : r ≡ far_in links (copy_beside owners p k.direction) = z ∙ ap (far_in links) s in
-        let y : o ≡ run_down owners (at owners p) p = rw (t, m, f, e) in
-        (λ i. subport# (x i) (y i))
-        ∙ ap (λ (q : Bool). cond q (subport# (far_in links (copy_beside owners p k.direction)) (run_down owners (at owners p) p)) (subport# p 0)) (sym (flag_told true n))
-        ∙ ap (subport_owned links owners flags p) (sym g ∙ owner_is)
-
-    pub subport_plain : (links : List ℕ) → b ≡ false → subport# p 0 ≡ subport_in links owners flags p
-    unfolding subport_in
-    subport_plain links n =
-        ap (λ (q : Bool). cond q (subport# (far_in links (copy_beside owners p k.direction)) (run_down owners (at owners p) p)) (subport# p 0)) (sym (flag_told false n))
-        ∙ ap (subport_owned links owners flags p) (sym g ∙ owner_is)
-
--- Where a port stands.
-module _ (owners : List ℕ) (p w a : ℕ) (e : w ≡ p) (f : a ≡ at owners w) where
-  owned : port_entry a ≡ port_entry (at owners p)
-  owned = ap port_entry (f ∙ ap (at owners) e)
-
-  pub place_nowhere : (x : PortPlace) → port_entry a ≡ port_variants.Free → x ≡ no_place → x ≡ place_in owners p
-  unfolding place_in
-  place_nowhere x g h = h ∙ ap (place_owned owners p) (sym g ∙ owned)
-
-  pub place_told : (k : PortMeta) (n u : ℕ) → port_entry a ≡ port_variants.Port k → u ≡ p → n ≡ row_below owners a u →
-      ◌≡◌ {A = PortPlace} (record { node = k.node; side = k.direction; position = n }) (place_in owners p)
-  unfolding place_in
-  place_told k n u g h l =
-      let y : n ≡ row_below owners (at owners p) p = rw (l, h, f, e) in
-      ap (λ (i : ℕ). record { node = k.node; side = k.direction; position = i }) y ∙ ap (place_owned owners p) (sym g ∙ owned)
-
-module _ (links owners : List ℕ) (flags : List Bool) (p w a : ℕ) (e : w ≡ p) (f : a ≡ at links w) where
-  none_there : a ≡ 0 → eqb (at links p) 0 ≡ true
-  none_there z = eq-eqb (at links p) 0 (ap (at links) (sym e) ∙ sym f ∙ z)
-
-  one_there : (a ≡ 0 → ⊥) → eqb (at links p) 0 ≡ false
-  one_there z = ne_eqb (at links p) 0 (λ y. z (f ∙ ap (at links) e ∙ y))
-
-  pub no_wire : a ≡ 0 → Ok None ≡ wire_in links owners flags p
-  unfolding wire_in
-  no_wire z = rw (none_there z)
-
-  pub one_wire : (v q : ℕ) (s : SubportIndex) (x : PortPlace) → (a ≡ 0 → ⊥) → v ≡ p → q ≡ far_in links v → s ≡ subport_in links owners flags q → x ≡ place_in owners s.port.0
+  pub wire_some : {r : Option SubportIndex} (s : SubportIndex) (x : PortPlace) → Ok r ≡ wire_end_in links owners flags p → r ≡ Some s → x ≡ place_in owners s.port.0
       → Ok (Some (s, x)) ≡ wire_in links owners flags p
-  unfolding wire_in
-  one_wire v q s x z h g k l = rw (one_there z, l, k, g, h)
+  wire_some s x e h k = ap (λ (y : PortPlace). Ok (Some (s, y))) k ∙ ap placed (ap Ok (sym h) ∙ e) ∙ wire_placed
 
-  pub no_wire_end : a ≡ 0 → Ok None ≡ wire_end_in links owners flags p
-  unfolding wire_end_in
-  no_wire_end z = rw (none_there z)
+  pub plain_none : {r : Option (SubportIndex × PortPlace)} → Ok r ≡ wire_in links owners flags p → r ≡ None → Ok None ≡ plain_in links owners flags p
+  plain_none e h = ap innermost (ap Ok (sym h) ∙ e) ∙ wire_inside
 
-  pub one_wire_end : (v q : ℕ) (s : SubportIndex) → (a ≡ 0 → ⊥) → v ≡ p → q ≡ far_in links v → s ≡ subport_in links owners flags q → Ok (Some s) ≡ wire_end_in links owners flags p
-  unfolding wire_end_in
-  one_wire_end v q s z h g k = rw (one_there z, k, g, h)
-
-  pub no_plain : a ≡ 0 → Ok None ≡ plain_in links owners flags p
-  unfolding plain_in
-  no_plain z = rw (none_there z)
-
-  pub one_plain : (v q : ℕ) (s : SubportIndex) (x : PortPlace) → (a ≡ 0 → ⊥) → v ≡ p → q ≡ far_in links v → s ≡ subport_in links owners flags q → x ≡ place_in owners s.port.0
+  pub plain_some : {r : Option (SubportIndex × PortPlace)} (s : SubportIndex) (x : PortPlace) (q : ℕ) → Ok r ≡ wire_in links owners flags p → r ≡ Some (s, x) → q ≡ far_in links p
       → Ok (Some (subport# q 0, x)) ≡ plain_in links owners flags p
-  unfolding plain_in
-  one_plain v q s x z h g k l = rw (one_there z, l, k, g, h)
+  plain_some s x q e h k = ap (λ (y : ℕ). Ok (Some (subport# y 0, x))) k ∙ ap innermost (ap Ok (sym h) ∙ e) ∙ wire_inside
 
 pub subports_bound : (links owners : List ℕ) (p : ℕ) (d : Direction) → subports_in links owners p d ≤ port_slots
 unfolding subports_in count_beside

@@ -2,8 +2,9 @@
 -- The ports of a hidden node lie in a row: the subports are the slots of one owner beside the copy port.
 use Rattle.std.specs.Prelude.{List, Bool, cond, ℕ, ◌-◌, zero, suc, ◌+◌, min, ◌*◌, ◌/◌, eqb, ltb, Option, Some, None, Result, Ok}
 use Rattle.port_tables.specs.Tables.{at, link_both, cut}
-use Rattle.port_tables.specs.Entries.{port_entry, node_of, node#}
-use Rattle.multi_tables.specs.Forms.{node_number, Port, dead, hidden, visible, flag_at, End, inner, lacking, subport#}
+unfoldable pub use Rattle.port_tables.specs.Tables.{far_in, owner_in}
+use Rattle.port_tables.specs.Entries.{port_entry, node#}
+use Rattle.multi_tables.specs.Forms.{Port, dead, hidden, visible, flag_at, End, inner, lacking, subport#}
 use Rattle.port_tables.specs.Limits.{node_slots, port_slots}
 use Rattle.port_tables.specs.declared.port_entry.PortEntry.{PortEntry}
 use Rattle.port_tables.specs.declared.direction.Direction.{Direction}
@@ -12,14 +13,6 @@ use Rattle.multi_tables.specs.declared.answers.SubportIndex.{SubportIndex}
 use Rattle.multi_tables.specs.declared.answers.PortPlace.{PortPlace}
 use Rattle.port_tables.specs.declared.port_entry.PortEntry.TheVariants as port_variants
 use Rattle.multi_tables.specs.declared.answers.Refusal.{Refusal}
-
--- the slot that a slot is linked with; 0 for none
-unfoldable pub far_in : List ℕ → ℕ → ℕ
-far_in links s = at links s - 1
-
--- the node that has a port; 0 for a port that is not live
-unfoldable pub owner_in : List ℕ → ℕ → ℕ
-owner_in owners p = node_number (node_of (port_entry (at owners p)))
 
 -- a port number: not live, of a hidden node, or of a block
 abbrev pub seen_owner : List Bool → PortEntry → Port

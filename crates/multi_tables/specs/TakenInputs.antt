@@ -1,15 +1,18 @@
 -- What release 2 refuses, read off lent tables: a link that names an input which already has a wire, after 2, 7, 8 and 9.
-use Rattle.std.specs.Prelude.{Bool, false, cond, not, List, ℕ, eqb, Result, Err}
+use Rattle.std.specs.Prelude.{Bool, false, cond, not, List, ℕ, eqb, Result, Ok, Err}
 use Rattle.port_tables.specs.declared.direction.Direction.{Direction}
 use Rattle.port_tables.specs.declared.direction.Direction.TheVariants.{Incoming, Outgoing}
-use Rattle.multi_tables.specs.Forms.{Port, dead, hidden, visible, good_offset, taken_under}
+use Rattle.multi_tables.specs.Forms.{Port, dead, hidden, visible, End, inner, lacking, good_offset, taken_under}
 use Rattle.multi_tables.specs.TableReads.{seen_in, end_in}
 use Rattle.multi_tables.specs.FanOutScans.{wires_at_in}
-use Rattle.multi_tables.specs.NamedEnds.{taken_ends, taken_seen, link_need, pair_named, link_named}
+use Rattle.multi_tables.specs.NamedEnds.{subport_pair, taken_ends, taken_seen, link_need, pair_named, link_named}
 use Rattle.port_tables.specs.declared.release.Release.{Release}
 use Rattle.multi_tables.specs.declared.answers.Refusal.{Refusal}
-use Rattle.multi_tables.specs.declared.answers.Refusal.TheVariants.{BadOffset}
+use Rattle.multi_tables.specs.declared.answers.Refusal.TheVariants.{BadOffset, UnknownOffset}
 use Rattle.multi_tables.specs.declared.named.LinkNeed.{LinkNeed}
+use Rattle.multi_tables.specs.declared.named.SeenPair.{SeenPair}
+use Rattle.multi_tables.specs.declared.named.SeenPair.TheVariants as both
+use Rattle.port_tables.specs.Entries.{port#}
 
 module _ (marks : List Bool) (links owners : List ℕ) (flags : List Bool) where
   -- a live input of a block has a wire
@@ -29,6 +32,19 @@ module _ (marks : List Bool) (links owners : List ℕ) (flags : List Bool) where
   unfoldable pub taken_in : Release → ℕ → ℕ → Bool
   taken_in release a b = taken_under release (wired_in a) (wired_in b)
 
+  -- whether each end of a link of subports that is looked at is there: 2, 7, 8, 9
+  abbrev pub there_or : ℕ → Result (Unit {0}) Refusal → End → Result (Unit {0}) Refusal
+  there_or p rest lacking = Err (UnknownOffset (port# p))
+  there_or p rest (inner x) = rest
+
+  abbrev pub there_seen : ℕ → ℕ → ℕ → ℕ → Result SeenPair Refusal → Result (Unit {0}) Refusal
+  there_seen p o q r (Err x) = Err x
+  there_seen p o q r (Ok (both.First d)) = there_or p (Ok tt) (end_in marks links owners p d o)
+  there_seen p o q r (Ok (both.Both d e)) = there_or p (there_or q (Ok tt) (end_in marks links owners q e r)) (end_in marks links owners p d o)
+
+  unfoldable pub ends_there : ℕ → ℕ → ℕ → ℕ → Result (Unit {0}) Refusal
+  ends_there p o q r = there_seen p o q r (subport_pair owners flags p o q r)
+
   -- what a link of subports is then refused with
   unfoldable pub taken_sub_in : ℕ → ℕ → ℕ → ℕ → Refusal
   taken_sub_in p o q r =
@@ -41,6 +57,11 @@ module _ (marks : List Bool) (links owners : List ℕ) (flags : List Bool) where
 -- and a link of ports
 unfoldable pub taken_ports_in : List ℕ → List Bool → ℕ → ℕ → Refusal
 taken_ports_in owners flags a b = taken_seen a b (seen_in owners flags a) (seen_in owners flags b)
+
+-- that refusal, where an input that a link of ports names has a wire
+unfoldable pub inputs_free : List Bool → List ℕ → List ℕ → List Bool → Release → ℕ → ℕ → Result (Unit {0}) Refusal
+inputs_free marks links owners flags release a b =
+    cond (taken_in marks links owners flags release a b) (Err (taken_ports_in owners flags a b)) (Ok tt)
 
 -- what a call names, where that refusal comes first
 module _ (marks : List Bool) (links owners : List ℕ) (flags : List Bool) (release : Release) where

@@ -1,5 +1,6 @@
 // A subport and where a port stands, why a call is refused, and what is answered of one end.
 ghost use Rattle.std.specs.Prelude.{◌≡◌};
+ghost use Rattle.multi_tables.specs.Forms.{subport#};
 ghost use Rattle.multi_tables.specs.EndAnswers.{unplaced, unplaced_numbers};
 
 use port_tables::direction::Direction;
@@ -10,6 +11,18 @@ use port_tables::index::{NodeIndex, PortIndex};
 pub struct SubportIndex {
     pub port: PortIndex,
     pub subport_offset: u16,
+}
+
+impl SubportIndex {
+    // The only subport of a port that is not split. portgraph's multiport graph has it under this name.
+    pub fn new_unique(port: PortIndex) -> Self
+        ensures { result ≡ subport# port.0 0 }
+    {
+        SubportIndex {
+            port,
+            subport_offset: 0,
+        }
+    }
 }
 
 // Why a call is refused.

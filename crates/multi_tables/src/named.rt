@@ -1,10 +1,11 @@
 // What a call names, read off lent tables: the inner ports of its ends, or the refusal.
 ghost use Rattle.std.specs.Prelude.{◌≡◌, ◌+◌, leb};
 ghost use Rattle.port_tables.specs.Limits.{port_slots};
-ghost use Rattle.multi_tables.specs.NamedEnds.{block_port, seen_pair, subport_pair, end_named, free_ends, second_end, first_end, link_named, read_in, reuse_in, end_need_in, first_need, both_need, link_need, pair_named};
+ghost use Rattle.multi_tables.specs.TableReads.{end_in};
+ghost use Rattle.multi_tables.specs.NamedEnds.{end_or, block_port, seen_pair, subport_pair, end_named, free_ends, second_end, first_end, link_named, read_in, free_end, reuse_in, end_need_in, first_need, both_need, link_need, pair_named};
 
 use crate::answers::{Refusal, SubportIndex};
-use crate::marks::marked;
+use crate::marks::flagged;
 use crate::reads::lowest_unlinked;
 use crate::seen::{SeenPort, SidedPort};
 use crate::wire_tables::WireTables;
@@ -22,7 +23,7 @@ pub enum SeenPair {
     Both(Direction, Direction),
 }
 
-// What an end needs before it can take a link.
+// What an end needs before it can take a link. The inner port and its offset stay two numbers: who matches on them hands each on by itself.
 #[derive(Clone, Copy)]
 pub enum EndNeed {
     // Nothing: the inner port and its offset.
@@ -45,6 +46,7 @@ pub enum LinkNeed {
 }
 
 // Two ends that are there: on opposite sides, and neither linked.
+#[tactic(auto, unfolding(crate::specs::NamedEnds::free_ends), using(port_tables::specs::SameSides::sides_compared))]
 fn free_ends(links: &[u32; PORT_SLOTS], a: SidedPort, b: SidedPort) -> Result<(u32, u32), Refusal>
     ensures { result ≡ free_ends links.now a.port a.side b.port b.side }
 {
@@ -61,31 +63,42 @@ fn free_ends(links: &[u32; PORT_SLOTS], a: SidedPort, b: SidedPort) -> Result<(u
 }
 
 // An end as read: on an unsplit port every offset means the port itself.
+#[tactic(auto, unfolding(crate::specs::NamedEnds::read_in))]
 pub fn read_in(marks: &[bool; PORT_SLOTS], subport: SubportIndex) -> SubportIndex
     ensures { result ≡ read_in marks.now subport.port.0 subport.subport_offset }
 {
     let port = subport.port;
-    if marked(marks, wide(port.0)) {
+    if flagged(marks, wide(port.0)) {
         return subport;
     }
-    SubportIndex {
-        port: port,
-        subport_offset: 0,
-    }
+    SubportIndex::new_unique(port)
 }
 
 // Whether a range of slots lies within the table.
 pub fn row_fits(first: usize, count: usize) -> bool
     ensures { result ≡ leb (first + count) port_slots }
 {
-    if first <= PORT_SLOTS {
-        return count <= PORT_SLOTS - first;
+    first <= PORT_SLOTS && count <= PORT_SLOTS - first
+}
+
+// The inner port and the offset of the lowest unlinked one of `count` subports from a slot on; none where all have a link, or they lie outside the table.
+#[tactic(auto, unfolding(crate::specs::NamedEnds::free_end))]
+pub fn free_end(links: &[u32; PORT_SLOTS], first: usize, count: usize) -> Option<(u32, u16)>
+    ensures { result ≡ free_end links.now first count }
+{
+    if row_fits(first, count) {
+        let offset = lowest_unlinked(links, first, count);
+        if offset < count {
+            return Some(((first + offset) as u32, offset as u16));
+        }
     }
-    false
+    None
 }
 
 impl WireTables<'_> {
-    // The block that has a port, and the side, or why the port is refused.
+    // The block that has a port, and the side, or why the port is refused. Stays a pair: of those who ask, as many want the node alone, the side alone, or
+    // neither, as make a `SidedPort` of it.
+    #[tactic(auto, unfolding(crate::specs::NamedEnds::block_port))]
     pub fn block_port(self, port: PortIndex) -> Result<(NodeIndex, Direction), Refusal>
         ensures { result ≡ block_port self.entry.owners.now self.entry.flags.now port.0 }
     {
@@ -97,6 +110,7 @@ impl WireTables<'_> {
     }
 
     // How two ports are seen, or the refusal. The second is read as `SeenPort`: a dead one is no refusal here, as it is to `block_port`.
+    #[tactic(auto, unfolding(crate::specs::NamedEnds::seen_pair, crate::specs::NamedEnds::block_port))]
     pub fn seen_pair(self, a: PortIndex, b: PortIndex) -> Result<SeenPair, Refusal>
         ensures { result ≡ seen_pair self.entry.owners.now self.entry.flags.now a.0 b.0 }
     {
@@ -109,114 +123,100 @@ impl WireTables<'_> {
     }
 
     // The same of the ports of two subports, after their offsets.
+    #[tactic(auto, unfolding(crate::specs::NamedEnds::subport_pair))]
     pub fn subport_pair(self, from: SubportIndex, to: SubportIndex) -> Result<SeenPair, Refusal>
         ensures { result ≡ subport_pair self.entry.owners.now self.entry.flags.now from.port.0 from.subport_offset to.port.0 to.subport_offset }
     {
-        if from.subport_offset == 65535 {
-            return Err(Refusal::BadOffset);
-        }
-        if to.subport_offset == 65535 {
+        if from.subport_offset == u16::MAX || to.subport_offset == u16::MAX {
             return Err(Refusal::BadOffset);
         }
         self.seen_pair(from.port, to.port)
     }
 
+    // The inner port of an end of a block's port, or the refusal that names the port.
+    #[tactic(auto)]
+    pub(crate) fn end_or(self, port: SidedPort, offset: u16) -> Result<u32, Refusal>
+        ensures { result ≡ end_or self.entry.marks.now self.entry.links.now self.entry.owners.now self.entry.flags.now port.port (end_in self.entry.marks.now self.entry.links.now self.entry.owners.now port.port port.side offset) }
+    {
+        self.end_in(port, offset)
+            .ok_or(Refusal::UnknownOffset(PortIndex(port.port)))
+    }
+
     // The end that a subport means.
+    #[tactic(auto, unfolding(crate::specs::NamedEnds::end_named, crate::specs::NamedEnds::block_port), using(crate::specs::NamedEndSteps::block_found, crate::specs::NamedEndSteps::block_refused))]
     pub fn end_named(self, subport: SubportIndex) -> Result<u32, Refusal>
         ensures { result ≡ end_named self.entry.marks.now self.entry.links.now self.entry.owners.now self.entry.flags.now subport.port.0 subport.subport_offset }
     {
         let port = subport.port;
         let offset = subport.subport_offset;
-        if offset == 65535 {
+        if offset == u16::MAX {
             return Err(Refusal::BadOffset);
         }
-        let (_, direction) = self.block_port(port)?;
-        let end = SidedPort {
-            port: port.0,
-            side: direction,
-        };
-        let Some(inner) = self.end_in(end, offset) else {
-            return Err(Refusal::UnknownOffset(port));
-        };
-        Ok(inner)
+        let (_, side) = self.block_port(port)?;
+        self.end_or(SidedPort { port: port.0, side }, offset)
     }
 
     // The first end is there, with its side: the second. Read as `SeenPort`: a dead port is another refusal than to `block_port`.
+    #[tactic(auto, unfolding(crate::specs::NamedEnds::second_end), using(crate::specs::NamedEndSteps::end_there, crate::specs::NamedEndSteps::end_lacking))]
     fn second_end(self, subport: SubportIndex, first: SidedPort) -> Result<(u32, u32), Refusal>
         ensures { result ≡ second_end self.entry.marks.now self.entry.links.now self.entry.owners.now self.entry.flags.now subport.port.0 subport.subport_offset first.port first.side }
     {
         let port = subport.port;
-        let offset = subport.subport_offset;
         match self.seen_in(port.0) {
             SeenPort::Dead => Err(Refusal::UnknownSecondPort(port)),
             SeenPort::Hidden => Err(Refusal::HiddenPort(port)),
-            SeenPort::Visible(_, e) => {
-                let second = SidedPort {
-                    port: port.0,
-                    side: e,
-                };
-                let Some(y) = self.end_in(second, offset) else {
-                    return Err(Refusal::UnknownOffset(port));
-                };
-                free_ends(self.links, first, SidedPort { port: y, side: e })
+            SeenPort::Visible(_, side) => {
+                let second = SidedPort { port: port.0, side };
+                let y = self.end_or(second, subport.subport_offset)?;
+                free_ends(self.links, first, SidedPort { port: y, side })
             }
         }
     }
 
     // The second port is not live or of a block: the first end, then the second.
+    #[tactic(auto, unfolding(crate::specs::NamedEnds::first_end), using(crate::specs::NamedEndSteps::end_there, crate::specs::NamedEndSteps::end_lacking))]
     fn first_end(
         self,
         from: SubportIndex,
         to: SubportIndex,
-        d: Direction,
+        side: Direction,
     ) -> Result<(u32, u32), Refusal>
-        ensures { result ≡ first_end self.entry.marks.now self.entry.links.now self.entry.owners.now self.entry.flags.now from.port.0 from.subport_offset to.port.0 to.subport_offset d }
+        ensures { result ≡ first_end self.entry.marks.now self.entry.links.now self.entry.owners.now self.entry.flags.now from.port.0 from.subport_offset to.port.0 to.subport_offset side }
     {
         let port = from.port;
-        let first = SidedPort {
-            port: port.0,
-            side: d,
-        };
-        let Some(x) = self.end_in(first, from.subport_offset) else {
-            return Err(Refusal::UnknownOffset(port));
-        };
-        self.second_end(to, SidedPort { port: x, side: d })
+        let first = SidedPort { port: port.0, side };
+        let x = self.end_or(first, from.subport_offset)?;
+        self.second_end(to, SidedPort { port: x, side })
     }
 
     // The ends of a link.
+    #[tactic(auto, unfolding(crate::specs::NamedEnds::link_named, crate::specs::NamedEnds::subport_pair, crate::specs::NamedEnds::seen_pair))]
     pub fn link_named(self, from: SubportIndex, to: SubportIndex) -> Result<(u32, u32), Refusal>
         ensures { result ≡ link_named self.entry.marks.now self.entry.links.now self.entry.owners.now self.entry.flags.now from.port.0 from.subport_offset to.port.0 to.subport_offset }
     {
-        match self.subport_pair(from, to)? {
-            SeenPair::First(d) => {
-                return self.first_end(from, to, d);
-            },
-            SeenPair::Both(d, _) => {
-                return self.first_end(from, to, d);
-            },
-        }
+        let (SeenPair::First(side) | SeenPair::Both(side, _)) = self.subport_pair(from, to)?;
+        self.first_end(from, to, side)
     }
 
     // A split port: the lowest unlinked offset, else one more.
+    #[tactic(auto, unfolding(crate::specs::NamedEnds::reuse_in, crate::specs::NamedEnds::reuse_at, crate::specs::NamedEnds::free_end))]
     fn reuse_in(self, port: SidedPort) -> EndNeed
         ensures { result ≡ reuse_in self.entry.links.now self.entry.owners.now port.port port.side }
     {
         let count = self.subports_in(port);
         let first = self.first_in(port);
-        if row_fits(first, count) {
-            let offset = lowest_unlinked(self.links, first, count);
-            if offset < count {
-                return EndNeed::Ready((first + offset) as u32, offset as u16);
-            }
-        }
-        EndNeed::Grow
+        let Some((end, offset)) = free_end(self.links, first, count) else {
+            return EndNeed::Grow;
+        };
+        EndNeed::Ready(end, offset)
     }
 
     // What the end that a link of this port takes needs.
+    #[tactic(auto, unfolding(crate::specs::NamedEnds::end_need_in))]
     pub fn need_in(self, port: SidedPort) -> EndNeed
         ensures { result ≡ end_need_in self.entry.marks.now self.entry.links.now self.entry.owners.now port.port port.side }
     {
-        if marked(self.marks, wide(port.port)) {
+        if flagged(self.marks, wide(port.port)) {
             return self.reuse_in(port);
         }
         if at(self.links, wide(port.port)) == 0 {
@@ -226,17 +226,18 @@ impl WireTables<'_> {
     }
 
     // The second port is not live.
+    #[tactic(auto, unfolding(crate::specs::NamedEnds::first_need))]
     fn first_need(self, a: SidedPort, b: PortIndex) -> Result<LinkNeed, Refusal>
         ensures { result ≡ first_need self.entry.marks.now self.entry.links.now self.entry.owners.now a.port a.side b.0 }
     {
         match self.need_in(a) {
             EndNeed::Ready(_, _) => Err(Refusal::UnknownSecondPort(b)),
-            EndNeed::Grow => Ok(LinkNeed::First(a.side)),
-            EndNeed::Split => Ok(LinkNeed::First(a.side)),
+            EndNeed::Grow | EndNeed::Split => Ok(LinkNeed::First(a.side)),
         }
     }
 
-    // Both ports are live.
+    // Both ports are live. Two tests: what the second end needs is not asked where the first one is not ready.
+    #[tactic(auto, unfolding(crate::specs::NamedEnds::both_need), using(port_tables::specs::SameSides::sides_compared))]
     fn both_need(self, a: SidedPort, b: SidedPort) -> Result<LinkNeed, Refusal>
         ensures { result ≡ both_need self.entry.marks.now self.entry.links.now self.entry.owners.now a.port a.side b.port b.side }
     {
@@ -253,35 +254,33 @@ impl WireTables<'_> {
     }
 
     // What a link of two ports needs, or why it is refused.
+    #[tactic(auto, unfolding(crate::specs::NamedEnds::link_need, crate::specs::NamedEnds::seen_pair))]
     pub fn link_need(self, a: PortIndex, b: PortIndex) -> Result<LinkNeed, Refusal>
         ensures { result ≡ link_need self.entry.marks.now self.entry.links.now self.entry.owners.now self.entry.flags.now a.0 b.0 }
     {
         match self.seen_pair(a, b)? {
-            SeenPair::First(d) => {
-                return self.first_need(SidedPort { port: a.0, side: d }, b);
-            },
+            SeenPair::First(d) => self.first_need(SidedPort { port: a.0, side: d }, b),
             SeenPair::Both(d, e) => {
                 let first = SidedPort { port: a.0, side: d };
                 let second = SidedPort { port: b.0, side: e };
-                return self.both_need(first, second);
-            },
+                self.both_need(first, second)
+            }
         }
     }
 
     // Whether two ports can be linked, room apart, or the refusal with the ports as named.
+    #[tactic(auto, unfolding(crate::specs::NamedEnds::pair_named, crate::specs::NamedEnds::seen_pair), using(port_tables::specs::SameSides::sides_compared))]
     pub fn pair_named(self, a: PortIndex, b: PortIndex) -> Result<(), Refusal>
         ensures { result ≡ pair_named self.entry.owners.now self.entry.flags.now a.0 b.0 }
     {
         match self.seen_pair(a, b)? {
-            SeenPair::First(_) => {
-                return Err(Refusal::UnknownSecondPort(b));
-            },
+            SeenPair::First(_) => Err(Refusal::UnknownSecondPort(b)),
             SeenPair::Both(d, e) => {
                 if d == e {
                     return Err(Refusal::IncompatibleDirections(a, b, d));
                 }
-                return Ok(());
-            },
+                Ok(())
+            }
         }
     }
 }

@@ -7,83 +7,79 @@ ghost use Rattle.multi_tables.specs.TableReads.{seen_in, wire_in};
 ghost use Rattle.multi_tables.specs.Scans.{first_found, link_port, span_first, span_count, not_own_output, passes_in, links_in, port_links_in, links_rest, beyond_in, block_links_in};
 
 use crate::answers::{SubportIndex, SubportLink};
-use crate::marks::marked;
-use crate::reads::{owner_in, place_in};
+use crate::marks::flagged;
+use crate::reads::place_in;
 use crate::seen::SidedPort;
 use crate::wire_tables::WireTables;
 use port_tables::direction::Direction;
-use port_tables::index::{NodeIndex, PORT_SLOTS, PortIndex};
-use port_tables::node_entry::{NodeEntry, NodeSlot};
+use port_tables::index::{NodeIndex, PORT_SLOTS, PortIndex, PortRange};
+use port_tables::node_entry::NodeSlot;
 use port_tables::numbers::wide;
 use port_tables::sides::{Sides, ports_from, ports_to};
+use port_tables::tables::owner_in;
 
 // Which links a walk gives, by the port that they lead to.
 // Stays an enum: what a walk leaves out is data of its cursor, and the definitions match on it.
 #[derive(Clone, Copy)]
 pub enum LinkFilter {
     All,
-    // Not to a port from the first on, the second excluded.
-    Skip(u32, u32),
+    // Not to a port of a range.
+    Skip(PortRange),
     NotOutputOf(NodeIndex),
     To(NodeIndex),
 }
 
-// Ends of a port: those at offsets from `from` on and below `end`. The port's first end is at the slot `first`.
+// Ends of a port: those at offsets from `from` on and below `end`. The port's first end is at the slot `first`. No number lies beyond the tables.
 #[derive(Clone, Copy)]
 pub struct PortEnds {
     pub port: u32,
     pub first: usize,
     pub from: usize,
     pub end: usize,
+    ghost first_fits: { first ≤ port_slots },
+    ghost end_fits: { end ≤ port_slots },
 }
 
 // What a walk gave last: the port, one higher than its number, with 0 at the start, and the offset. Stays a number, as in the walks: one past the
 // last port is where a walk goes on.
-#[derive(Clone, Copy)]
+#[derive(Clone, Copy, Default)]
 pub struct Held {
     pub port: u32,
     pub offset: u16,
 }
 
-// The smaller of a number and the table's size.
-pub fn capped(x: usize) -> usize
-    ensures { result ≡ min x port_slots }
-{
-    if x <= PORT_SLOTS { x } else { PORT_SLOTS }
-}
-
 impl WireTables<'_> {
     // The slot of a port's first end.
+    #[tactic(auto, unfolding(crate::specs::Scans::span_first))]
     pub fn span_first(self, port: SidedPort) -> usize
         ensures { (result ≡ span_first self.entry.marks.now self.entry.links.now self.entry.owners.now port.port port.side) × (result ≤ port_slots) }
     {
-        if marked(self.marks, wide(port.port)) {
-            return capped(self.first_in(port));
+        if flagged(self.marks, wide(port.port)) {
+            return self.first_in(port).min(PORT_SLOTS);
         }
-        capped(wide(port.port))
+        wide(port.port).min(PORT_SLOTS)
     }
 
     // How many ends a port has.
+    #[tactic(auto, unfolding(crate::specs::Scans::span_count), using(crate::specs::TableReadSteps::subports_bound))]
     pub fn span_count(self, port: SidedPort) -> usize
         ensures { (result ≡ span_count self.entry.marks.now self.entry.links.now self.entry.owners.now port.port port.side) × (result ≤ port_slots) }
     {
-        if marked(self.marks, wide(port.port)) {
+        if flagged(self.marks, wide(port.port)) {
             return self.subports_in(port);
         }
         1
     }
 
     // Whether a port is no outgoing port of a node.
+    #[tactic(auto, unfolding(crate::specs::NamedEnds::block_port), using(crate::specs::NamedEndSteps::block_found, crate::specs::NamedEndSteps::block_unseen))]
     fn not_own_output(self, node: NodeIndex, port: u32) -> bool
         ensures { result ≡ not_own_output node.0 (seen_as (seen_in self.entry.owners.now self.entry.flags.now port)) }
     {
         let Ok((other, direction)) = self.block_port(PortIndex(port)) else {
             return true;
         };
-        if other.0 == node.0 {
-            return direction == Direction::Incoming;
-        }
-        true
+        other != node || direction == Direction::Incoming
     }
 
     // Whether a link to a port is given.
@@ -92,12 +88,7 @@ impl WireTables<'_> {
     {
         match only {
             LinkFilter::All => true,
-            LinkFilter::Skip(from, to) => {
-                if from <= port {
-                    return to <= port;
-                }
-                true
-            }
+            LinkFilter::Skip(range) => port < range.from || range.to <= port,
             LinkFilter::NotOutputOf(node) => self.not_own_output(node, port),
             LinkFilter::To(node) => owner_in(self.owners, port) == node.0,
         }
@@ -115,32 +106,27 @@ impl WireTables<'_> {
             (wire_to (subport# port offset) (wire_in self.entry.links.now self.entry.owners.now self.entry.flags.now slot))))
             × (link_port port result ≡ port) }
     {
-        if slot < PORT_SLOTS {
-            let Ok(found) = self.wire_end_in(slot as u32) else {
-                return None;
-            };
-            let Some(to) = found else {
-                return None;
-            };
-            let far = to.port;
-            if self.passes(only, far.0) {
-                let place = place_in(self.owners, far.0);
-                return Some(SubportLink {
-                    from: SubportIndex {
-                        port: PortIndex(port),
-                        subport_offset: offset,
-                    },
-                    to: to,
-                    place: place,
-                });
-            }
+        if PORT_SLOTS <= slot {
+            return None;
         }
-        None
+        let to = self.wire_end_in(slot as u32)?;
+        let far = to.port;
+        if !self.passes(only, far.0) {
+            return None;
+        }
+        Some(SubportLink {
+            from: SubportIndex {
+                port: PortIndex(port),
+                subport_offset: offset,
+            },
+            to: to,
+            place: place_in(self.owners, far.0),
+        })
     }
 
-    // The first link at these ends.
+    // The first link at these ends. Stays a loop, as the search behind it and the one from the back: what `find_map` gives is told of the runs of its closure, and
+    // the invariant here of links.
     pub fn scan_port(self, only: LinkFilter, ends: PortEnds) -> Option<SubportLink>
-        requires { (ends.first ≤ port_slots) × (ends.end ≤ port_slots) }
         ensures { (result ≡ first_found (filter (λ w. passes_in self.entry.owners.now self.entry.flags.now only w.to.port.0)
             (links_in self.entry.links.now self.entry.owners.now self.entry.flags.now ends.port ends.first ends.from (ends.end - ends.from))))
             × (link_port ends.port result ≡ ends.port) }
@@ -160,22 +146,17 @@ impl WireTables<'_> {
             (port_links_in self.entry.marks.now self.entry.links.now self.entry.owners.now self.entry.flags.now port from)))
             × (link_port port result ≡ port) }
     {
-        let Ok((_, side)) = self.block_port(PortIndex(port)) else {
-            return None;
-        };
-        let sided = SidedPort {
-            port: port,
-            side: side,
-        };
+        let (_, side) = self.block_port(PortIndex(port)).ok()?;
+        let sided = SidedPort { port, side };
         let first = self.span_first(sided);
         let end = self.span_count(sided);
         self.scan_port(
             only,
             PortEnds {
-                port: port,
-                first: first,
-                from: from,
-                end: end,
+                port,
+                first,
+                from,
+                end,
             },
         )
     }
@@ -192,7 +173,7 @@ impl WireTables<'_> {
             (links_rest self.entry.marks.now self.entry.links.now self.entry.owners.now self.entry.flags.now from offset (min end port_slots - from))))
             × (link_port 0 result < port_slots) }
     {
-        let stop = capped(end);
+        let stop = end.min(PORT_SLOTS);
         let mut first = offset;
         for port in from..stop {
             let found = self.port_link_from(only, port as u32, first);
@@ -231,10 +212,7 @@ impl WireTables<'_> {
         if hidden {
             return None;
         }
-        let entry = slot.entry;
-        let NodeEntry::Node(meta) = entry else {
-            return None;
-        };
+        let meta = slot.meta()?;
         let side = Sides::One(Direction::Outgoing);
         self.next_beyond(
             LinkFilter::All,

@@ -4,28 +4,25 @@ ghost use Rattle.port_tables.specs.Limits.{port_slots};
 ghost use Rattle.multi_tables.specs.TableReads.{run_up, run_down};
 ghost use Rattle.multi_tables.specs.FanOutScans.{linked_at, linked_up, linked_down, linked_beside, wires_at_in};
 
-use crate::marks::marked;
-use crate::reads::far_in;
-use crate::scans::capped;
+use crate::marks::flagged;
 use crate::seen::SidedPort;
 use crate::wire_tables::WireTables;
 use port_tables::direction::Direction;
 use port_tables::index::PORT_SLOTS;
 use port_tables::numbers::wide;
-use port_tables::tables::at;
+use port_tables::tables::{at, link_count};
 
 // 1 for a slot that is linked, else 0.
+#[tactic(auto, unfolding(crate::specs::FanOutScans::linked_at, port_tables::specs::Tables::link_count))]
 fn linked_at(links: &[u32; PORT_SLOTS], slot: usize) -> usize
     ensures { (result ≡ linked_at links.now slot) × (result ≤ 1) }
 {
-    if at(links, slot) == 0 {
-        return 0;
-    }
-    1
+    link_count(at(links, slot))
 }
 
 impl WireTables<'_> {
-    // How many of the slots in a row from `from` on that have this owner are linked.
+    // How many of the slots in a row from `from` on that have this owner are linked. Stays a loop, as the one below: a filter over the range was tried,
+    // and that its count is the definition's could not be proved.
     fn linked_up(self, owner: u32, from: usize) -> usize
         requires { from ≤ 4294967296 }
         ensures { (result ≡ linked_up self.entry.links.now from (run_up self.entry.owners.now owner from)) × (result ≤ port_slots) }
@@ -44,7 +41,7 @@ impl WireTables<'_> {
     fn linked_down(self, owner: u32, from: usize) -> usize
         ensures { (result ≡ linked_down self.entry.links.now from (run_down self.entry.owners.now owner from)) × (result ≤ port_slots) }
     {
-        let most = capped(from);
+        let most = from.min(PORT_SLOTS);
         let mut linked: usize = 0;
         for k in 0..most {
             if at(self.owners, from - (k + 1)) != owner {
@@ -56,6 +53,7 @@ impl WireTables<'_> {
     }
 
     // How many of the subports beside a copy port are linked.
+    #[tactic(auto, unfolding(crate::specs::FanOutScans::linked_beside, crate::specs::TableReads::count_beside))]
     fn linked_beside(self, copy: SidedPort) -> usize
         ensures { (result ≡ linked_beside self.entry.links.now self.entry.owners.now copy.port copy.side) × (result ≤ port_slots) }
     {
@@ -70,15 +68,13 @@ impl WireTables<'_> {
     }
 
     // How many wires a port has.
+    #[tactic(auto, unfolding(crate::specs::FanOutScans::wires_at_in))]
     pub fn wires_at(self, port: SidedPort) -> usize
         ensures { (result ≡ wires_at_in self.entry.marks.now self.entry.links.now self.entry.owners.now port.port port.side) × (result ≤ port_slots) }
     {
         let slot = wide(port.port);
-        if marked(self.marks, slot) {
-            return self.linked_beside(SidedPort {
-                port: far_in(self.links, slot),
-                side: port.side,
-            });
+        if flagged(self.marks, slot) {
+            return self.linked_beside(self.copy_of(port));
         }
         linked_at(self.links, slot)
     }

@@ -181,7 +181,7 @@ module _ (m : MultiPortGraph) (p k n : ℕ) (h : n ≤ k) where
 
 -- both sides of a block
 pub dropped_listed : (m : MultiPortGraph) (k : NodeMeta) (i o first a b x y c r : ℕ) (l l₁ l₂ : List ℕ)
-    → first ≡ k.first_port.0 → a ≡ k.incoming → b ≡ k.outgoing → x ≡ min a i → y ≡ min b o
+    → first ≡ k.first_port.0 → a ≡ k.incoming → b ≡ k.outgoing → x ≡ min k.incoming i → y ≡ min k.outgoing o
     → c ≡ 0 + length (copies_in m (first + x) (a - x)) → l₁ ≡ sets l 0 (copies_in m (first + x) (a - x))
     → r ≡ c + length (copies_in m (first + a + y) (b - y)) → l₂ ≡ sets l₁ c (copies_in m (first + a + y) (b - y))
     → (r ≡ length (copies_dropped m k i o)) × (l₂ ≡ sets l 0 (copies_dropped m k i o))
@@ -268,11 +268,6 @@ module _ (m : MultiPortGraph) (n : ℕ) where
       go None f h g q = let z : ◌≡◌ {A = ℕ} 0 1 = cc in absurd (omega arith)
       go (Some j) f true g q = let z : ◌≡◌ {A = ℕ} 0 1 = cc in absurd (omega arith)
       go (Some j) f false g q = let z : k ≡ j = cc in (ap Some z ∙ f, g)
-
-  pub remove_found : (k : NodeMeta) {g : MultiPortGraph} → Ok k ≡ block_found m n → g ≡ drop_block m n k → RemovedAs m n (record { graph = g; answer = Ok tt })
-  remove_found k e d =
-      let f = found_is k e in
-      removed_as m n _ (ap (λ x. record { graph = x; answer = Ok tt }) d ∙ remove_cond k false f.1 ∙ ap (remove_meta m n) f.0 ∙ sym (remove_cases m n))
 
 -- its hidden nodes went, then the node
 pub block_dropped : (m : MultiPortGraph) (n : ℕ) (k : NodeMeta) {c : ℕ} {bare : MultiPortGraph} {s : lower_removed.NodeRemoved} → c ≡ k.incoming + k.outgoing

@@ -1,8 +1,10 @@
 -- The hidden node of a split port goes: every wire at that port goes with it, and nothing else changes.
 -- Then the cut of a whole port.
-use Rattle.std.specs.Prelude.{◌≡◌, refl, Bool, true, List, [], ◌⊎◌, ℕ, ◌+◌, ◌-◌, ◌≤◌, ◌<◌, eqb, set}
+use Rattle.std.proofs.lemmas.Bool.{cases_Bool}
+use Rattle.std.proofs.lemmas.Bool.{cases_eq}
+use Rattle.std.specs.Prelude.{◌≡◌, refl, Bool, true, List, [], ℕ, ◌+◌, ◌-◌, ◌≤◌, ◌<◌, set}
 use Rattle.std.proofs.Math.Path.{sym, ap}
-use Rattle.std.proofs.Common.{◌∙◌, subst, inl, inr, eq-eqb, ne_eqb, eqb-true}
+use Rattle.std.proofs.Common.{◌∙◌, subst, inl, inr, eq-eqb, ne_eqb}
 use Rattle.std.proofs.Math.Bool.{false, cond}
 use Rattle.std.proofs.Math.Logic.{⊎_elim}
 use native.Mathlib.Omega.{arith}
@@ -27,7 +29,7 @@ use Rattle.portgraph.specs.declared.portgraph.PortGraph.{PortGraph}
 use Rattle.multiportgraph.specs.Reading.{is_hidden, is_split, copy_side, copy_node, port_of}
 use Rattle.multiportgraph.specs.WellFormed.{copy_place, Fine, Seen, outer, lift, IsEnd, WireIn, SameBlocks, Wiring, subports_of_slot}
 use Rattle.multiportgraph.specs.Ends.{Hangs, port_of_lem, count_of_lem, copy_valid, main_seen, main_back, outer_of_subport, outer_of_block, one_copy, unsplit_no_copy, split_has_copy, ends_join_ends, outer_of_unsplit}
-use Rattle.multiportgraph.specs.HiddenStays.{same_wire, outer_kept, true_or_false, true_not_false, AtCopyLink, Frame, frame_fine, Alike, kept_end, wire_kept, kept_wire}
+use Rattle.multiportgraph.specs.HiddenStays.{same_wire, outer_kept, true_not_false, AtCopyLink, Frame, frame_fine, Alike, kept_end, wire_kept, kept_wire}
 use Rattle.multiportgraph.specs.LinkCutLaws.{to_same, end_is_here, CutDone, cut_end_lem, end_is, touches_neither, touched_not_out, touched_not_into, at_spot_here, at_spot_is}
 use Rattle.multiportgraph.specs.declared.multiportgraph.MultiPortGraph.{MultiPortGraph}
 use Rattle.port_tables.specs.Places.{Place, Wire, touches, at_spot, at_end, spot, flag}
@@ -43,13 +45,6 @@ port_at_here x o = at_spot_here x.node x.side x.pos (lift x o) refl refl refl
 
 pub port_at_is : (x z : model.InnerPlace) (o : ℕ) → port_at x (lift z o) ≡ true → z ≡ x
 port_at_is x z o t = let r = at_spot_is x.node x.side x.pos (lift z o) t in same_place_lem z x r.0 r.1 r.2
-
-number_cases : (a b : ℕ) → (a ≡ b) ⊎ (a ≡ b → ⊥)
-number_cases a b = go (eqb a b) refl
-  where
-    go : (t : Bool) → eqb a b ≡ t → (a ≡ b) ⊎ (a ≡ b → ⊥)
-    go true e = inl (eqb-true a b e)
-    go false e = inr (eqb-false a b e)
 
 -- the lower graph without a node
 pub removed_holds : {g : PortGraph} {M : Model} → Good M → Holds g M → (n : ℕ) (k : NodeMeta) → M.node n ≡ live k → Holds (remove_node g n).graph (remove_model M n k)
@@ -170,7 +165,7 @@ module _ {m : MultiPortGraph} {M : Model} (f : Fine m M) (x : model.InnerPlace) 
 
   stays : (e s : ℕ) → is_hidden m e ≡ true → is_split without_copy s ≡ true → AtCopyLink m M e s → is_hidden without_copy e ≡ true
   stays e s h t a =
-      ⊎_elim (λ q. absurd (true_not_false t (own_link_unmarked s (subst (λ (n : ℕ). AtCopyLink m M n s) q a)))) (λ other. hidden_other e other ∙ h) (number_cases e c)
+      ⊎_elim (λ q. absurd (true_not_false t (own_link_unmarked s (subst (λ (n : ℕ). AtCopyLink m M n s) q a)))) (λ other. hidden_other e other ∙ h) (cases_eq e c)
 
   copies_after : without_copy.copy_node_count ≡ total node_slots (λ n. flag (is_hidden without_copy n))
   unfolding remove_copy
@@ -243,10 +238,10 @@ module _ {m : MultiPortGraph} {M : Model} (f : Fine m M) (x : model.InnerPlace) 
       ap (port_at x) (outer_of_subport f z x (ap (is_hidden m) q ∙ hc) (ap (λ (n : ℕ). M.join (copy_place m n)) q ∙ from)) ∙ port_at_here x z.pos
 
   pub end_elsewhere : (z : model.InnerPlace) → IsEnd m M z → (z.node ≡ c → ⊥) → port_at x (outer m M z) ≡ false
-  end_elsewhere z ez other = ⊎_elim (λ t. absurd (clash t)) (λ e. e) (true_or_false (port_at x (outer m M z)))
+  end_elsewhere z ez other = ⊎_elim (λ t. absurd (clash t)) (λ e. e) (cases_Bool (port_at x (outer m M z)))
     where
       clash : port_at x (outer m M z) ≡ true → ⊥
-      clash t = ⊎_elim sub whole (true_or_false (is_hidden m z.node))
+      clash t = ⊎_elim sub whole (cases_Bool (is_hidden m z.node))
         where
           whole : is_hidden m z.node ≡ false → ⊥
           whole h =
@@ -366,13 +361,13 @@ module _ {m : MultiPortGraph} {M : Model} (f : Fine m M) where
   -- an unsplit port has one end
   one_end : (x z : model.InnerPlace) → Seen m M x → is_split m (slot_of M.node x) ≡ false → IsEnd m M z → end_is (lift x 0) (outer m M z) ≡ port_at x (outer m M z)
   unfolding at_end
-  one_end x z sx n ez = ⊎_elim here away (true_or_false (port_at x (outer m M z)))
+  one_end x z sx n ez = ⊎_elim here away (cases_Bool (port_at x (outer m M z)))
     where
       away : port_at x (outer m M z) ≡ false → end_is (lift x 0) (outer m M z) ≡ port_at x (outer m M z)
       away e = rw e
 
       here : port_at x (outer m M z) ≡ true → end_is (lift x 0) (outer m M z) ≡ port_at x (outer m M z)
-      here t = ⊎_elim sub whole (true_or_false (is_hidden m z.node))
+      here t = ⊎_elim sub whole (cases_Bool (is_hidden m z.node))
         where
           whole : is_hidden m z.node ≡ false → end_is (lift x 0) (outer m M z) ≡ port_at x (outer m M z)
           whole h =

@@ -1,20 +1,18 @@
 -- Hidden nodes that go and marks that move: what the calls of the code give amounts to the definitions.
-use Rattle.std.specs.Prelude.{◌≡◌, Bool, true, false, cond, List, ℕ, ◌-◌, length, set, Option, Some, None}
+use Rattle.std.specs.Prelude.{◌≡◌, Bool, true, false, cond, List, ℕ, ◌-◌, length, set}
 use Rattle.std.proofs.Common.{sym, ap, ◌∙◌, length-set}
 use Rattle.port_tables.specs.Limits.{node_slots, port_slots}
 use Rattle.port_tables.specs.Entries.{reversed}
-use Rattle.portgraph.specs.Lookups.{meta_at, num_ports}
+use Rattle.portgraph.specs.Lookups.{num_ports}
 use Rattle.portgraph.specs.Calls.{remove_node}
 use Rattle.port_tables.specs.declared.direction.Direction.{Direction}
-use Rattle.port_tables.specs.declared.node_entry.NodeMeta.{NodeMeta}
-use Rattle.portgraph.specs.declared.portgraph.PortGraph.{PortGraph}
 use Rattle.portgraph.specs.declared.alloc.NodeRemoved.{NodeRemoved}
 use Rattle.multiportgraph.specs.Graph.{multi}
 use Rattle.multiportgraph.specs.Reading.{port_of, is_split, copy_node, copy_side}
-use Rattle.multi_tables.specs.Forms.{put_flag, lay_marks}
+use Rattle.multi_tables.specs.Forms.{put_flag}
 use Rattle.multi_tables.specs.FormSteps.{put_flag_is}
 use Rattle.multiportgraph.specs.declared.multiportgraph.MultiPortGraph.{MultiPortGraph}
-use Rattle.multiportgraph.specs.HiddenNodes.{remove_copy, unsplit, recounted, marks_moved}
+use Rattle.multiportgraph.specs.HiddenNodes.{remove_copy, unsplit}
 
 -- two marks stored
 pub two_puts : (t : List Bool) (size i j : ℕ) (a b : Bool) → length t ≡ size → put_flag (put_flag t size i a) size j b ≡ set (set t i a) j b
@@ -54,22 +52,3 @@ unsplit_split m p n s e f = f ∙ (ap (remove_copy m p) e ∙ ap (λ (b : Bool).
 pub unsplit_plain : (m : MultiPortGraph) (p : ℕ) → is_split m p ≡ false → m ≡ unsplit m p
 unfolding unsplit
 unsplit_plain m p s = ap (λ (b : Bool). cond b (remove_copy m p (copy_node m p)) m) (sym s)
-
--- Another lower graph.
-
--- the graph with another lower graph and other marks
-abbrev pub remarked : MultiPortGraph → PortGraph → List Bool → MultiPortGraph
-remarked m g t =
-    multi g t m.copy_node m.copy_node_count m.subport_count m.release
-
-pub recount_none : (m : MultiPortGraph) (n : ℕ) (g : PortGraph) → None ≡ meta_at m.graph n → remarked m g m.multiport ≡ recounted m n g
-unfolding recounted
-recount_none m n g e = ap (λ (k : Option NodeMeta). remarked m g (marks_moved m.multiport k (meta_at g n))) e
-
-pub recount_gone : (m : MultiPortGraph) (n : ℕ) (g : PortGraph) (a : NodeMeta) → Some a ≡ meta_at m.graph n → None ≡ meta_at g n → remarked m g m.multiport ≡ recounted m n g
-unfolding recounted
-recount_gone m n g a e f = λ i. remarked m g (marks_moved m.multiport (e i) (f i))
-
-pub recount_moved : (m : MultiPortGraph) (n : ℕ) (g : PortGraph) (a b : NodeMeta) {t : List Bool} → Some a ≡ meta_at m.graph n → Some b ≡ meta_at g n → t ≡ lay_marks m.multiport a b → remarked m g t ≡ recounted m n g
-unfolding recounted
-recount_moved m n g a b e f h = ap (remarked m g) h ∙ (λ i. remarked m g (marks_moved m.multiport (e i) (f i)))

@@ -1,5 +1,6 @@
 -- How port numbers and subports of a graph of the calls read as places: lookups at the slot of a place, ports of blocks and of
 -- hidden nodes, and the ends that hang on a port. Wires are told apart by their ends.
+use Rattle.std.proofs.lemmas.Bool.{cases_Bool}
 use Rattle.std.specs.Prelude.{◌≡◌, Bool, ◌⊎◌, ℕ, zero, suc, ◌+◌, ◌-◌, ◌≤◌, ◌<◌}
 use Rattle.std.proofs.Math.Path.{refl, ap, subst}
 use Rattle.std.proofs.Common.{sym, ◌∙◌, inl, inr}
@@ -70,7 +71,7 @@ pub record EndOf (m : MultiPortGraph) (M : Model) (x : model.InnerPlace) (o q : 
 
 -- Sides and places.
 
-not_reversed : (d : Direction) → reversed d ≡ d → ⊥
+pub not_reversed : (d : Direction) → reversed d ≡ d → ⊥
 not_reversed Incoming e = zero_is_not_one (cc)
 not_reversed Outgoing e = zero_is_not_one (cc)
 
@@ -89,10 +90,6 @@ side_cases Outgoing Outgoing = inl refl
 -- a place is told by its node, side and position
 pub lift_place : {x y : model.InnerPlace} {o r : ℕ} → lift x o ≡ lift y r → x ≡ y
 lift_place {x} {y} e = same_place_lem x y (ap (λ (z : Place). z.node) e) (ap (λ (z : Place). z.side) e) (ap (λ (z : Place). z.pos) e)
-
-split_or_not : (b : Bool) → (b ≡ true) ⊎ (b ≡ false)
-split_or_not true = inl refl
-split_or_not false = inr refl
 
 -- Lists of ports.
 
@@ -232,9 +229,6 @@ module _ {m : MultiPortGraph} {M : Model} (f : Fine m M) where
   pub subport_count : (c : ℕ) → is_hidden m c ≡ true → 2 ≤ count_of (M.node c) (reversed (copy_side m c))
   subport_count c h = let k = f.copy c h in subst (λ (v : Slots). 2 ≤ count_of v (reversed (copy_side m c))) (sym k.here) k.several
 
-  pub subport_valid : (c i : ℕ) → is_hidden m c ≡ true → i < count_of (M.node c) (reversed (copy_side m c)) → Valid M.node (inner# c (reversed (copy_side m c)) i)
-  subport_valid c i h l = l
-
   -- a port of the copy port's side is the copy port
   pub copy_only : (x : model.InnerPlace) → Valid M.node x → is_hidden m x.node ≡ true → x.side ≡ copy_side m x.node → x ≡ copy_place m x.node
   copy_only x v h s =
@@ -335,7 +329,7 @@ module _ {m : MultiPortGraph} {M : Model} (f : Fine m M) where
       let b = f.good.join_back x y j in
       record {
         valid = v;
-        unsplit = λ h. ⊎_elim (λ t. absurd (split_far (split_has_copy y (v, h) t) b)) (λ t. t) (split_or_not (is_split m (slot_of M.node y)));
+        unsplit = λ h. ⊎_elim (λ t. absurd (split_far (split_has_copy y (v, h) t) b)) (λ t. t) (cases_Bool (is_split m (slot_of M.node y)));
         subport = λ h s. copy_far y.node h (subst (λ (z : model.InnerPlace). M.join z ≡ to x) (copy_only y v h s) b);
       }
     where

@@ -1,5 +1,6 @@
 -- What other counts of a hidden node do to the tables: the copy port's mark moves with it. What one more subport does: the new port
 -- follows the others.
+use Rattle.std.proofs.lemmas.Bool.{cases_eq}
 use Rattle.std.specs.Prelude.{◌≡◌, refl, Bool, ℕ, ◌+◌, ◌<◌, length, set, Ok}
 use Rattle.std.proofs.Math.Path.{sym, ap, transport}
 use Rattle.std.proofs.Common.{◌∙◌, length-set, get_or-set_same, get_or-set_other, lt-length-set}
@@ -22,7 +23,7 @@ use Rattle.portgraph.specs.declared.resize.PortsSet.{PortsSet}
 use Rattle.multiportgraph.specs.Reading.{is_hidden, is_split, copy_side, copy_node, port_of}
 use Rattle.multiportgraph.specs.WellFormed.{inner#, copy_place, Fine, Marked, copy_port, main_port_lem, Seen}
 use Rattle.multiportgraph.specs.Ends.{Hangs, hangs, copy_valid, copy_count, count_of_lem, one_copy, main_seen, block_seen, split_has_copy}
-use Rattle.multiportgraph.specs.RecountLaws.{Recount, WasMarked, number_cases, marked_place, marks_long_lem, other_slot, other_count, recount_marks, marked_was, set_recounts, copy_place_same, grown, growth#, valid_kept, joins_same, ends_same, hidden_same, grown_fine, fresh, fresh_valid, fresh_slot, more_longer}
+use Rattle.multiportgraph.specs.RecountLaws.{Recount, WasMarked, marked_place, marks_long_lem, other_slot, other_count, recount_marks, marked_was, set_recounts, copy_place_same, grown, growth#, valid_kept, joins_same, ends_same, hidden_same, grown_fine, fresh, fresh_valid, fresh_slot, more_longer}
 use Rattle.multi_tables.specs.TableReads.{far_in, first_in, last_beside, grown_incoming, grown_outgoing}
 use Rattle.multiportgraph.specs.TableReadLaws.{first_there, far_is}
 use Rattle.multiportgraph.specs.declared.multiportgraph.MultiPortGraph.{MultiPortGraph}
@@ -63,7 +64,7 @@ module _ {m : MultiPortGraph} {M : Model} (f : Fine m M) (x : model.InnerPlace) 
   marked_after s n t = go (marked_was f r s t)
     where
       go : WasMarked m M M' s → (is_split m s ≡ true) × (s ≡ slot_of M.node cp → ⊥)
-      go w = ⊎_elim here other (number_cases w.place.node h.copy)
+      go w = ⊎_elim here other (cases_eq w.place.node h.copy)
         where
           here : w.place.node ≡ h.copy → (is_split m s ≡ true) × (s ≡ slot_of M.node cp → ⊥)
           here e = absurd (n (sym w.slot ∙ ap (slot_of M'.node) (marked_copy f h.copy h.is_copy w.place w.was e w.marked)))
@@ -90,7 +91,7 @@ module _ {m : MultiPortGraph} {M : Model} (f : Fine m M) (x : model.InnerPlace) 
   mark_moves =
       ext_get_or false _ _
       (marks_long_lem f r ∙ sym (length-set (set m.multiport (slot_of M.node cp) false) (slot_of M'.node cp) true ∙ (length-set m.multiport (slot_of M.node cp) false ∙ f.marks_long)))
-      (λ s l. ⊎_elim (new s) (λ n. ⊎_elim (old s n) (else s n) (number_cases s (slot_of M.node cp))) (number_cases s (slot_of M'.node cp)))
+      (λ s l. ⊎_elim (new s) (λ n. ⊎_elim (old s n) (else s n) (cases_eq s (slot_of M.node cp))) (cases_eq s (slot_of M'.node cp)))
     where
       new : (s : ℕ) → s ≡ slot_of M'.node cp → get_or (recounted m h.copy g').multiport s false ≡ get_or (set (set m.multiport (slot_of M.node cp) false) (slot_of M'.node cp) true) s false
       new s e =

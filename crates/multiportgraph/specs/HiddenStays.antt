@@ -1,5 +1,6 @@
 -- What carries over from one graph to another where the hidden nodes that are left keep their counts and their links:
 -- which side has the copy port, what each end is, and that the graph is fine.
+use Rattle.std.proofs.lemmas.Bool.{cases_Bool}
 use Rattle.std.specs.Prelude.{◌≡◌, Bool, ◌⊎◌, ℕ, ◌+◌, ◌≤◌, ◌<◌, length, Some}
 use Rattle.std.proofs.Math.Path.{refl, sym, subst}
 use Rattle.std.proofs.Common.{◌∙◌, ap, inl, inr, arith, eq-eqb, ne_eqb}
@@ -22,10 +23,6 @@ use Rattle.multiportgraph.specs.WellFormed.{inner#, copy_place, Marked, copy_por
 use Rattle.multiportgraph.specs.declared.multiportgraph.MultiPortGraph.{MultiPortGraph}
 use Rattle.port_tables.specs.Places.{Place, Wire, flag}
 use Rattle.multiportgraph.specs.Graph.{with_graph}
-
-pub true_or_false : (b : Bool) → (b ≡ true) ⊎ (b ≡ false)
-true_or_false true = inl refl
-true_or_false false = inr refl
 
 pub true_not_false : {b : Bool} → b ≡ true → b ≡ false → ⊥
 true_not_false p q = zero_is_not_one (cc)
@@ -71,7 +68,7 @@ module _ {m : MultiPortGraph} {M : Model} {m' : MultiPortGraph} {M' : Model} (f 
   copy_join_kept c h = ap M'.join (copy_place_kept c h) ∙ F.join c h
 
   pub shown_kept : (n : ℕ) → is_hidden m n ≡ false → is_hidden m' n ≡ false
-  shown_kept n h = ⊎_elim (λ t. absurd (true_not_false (F.hid n t) h)) (λ e. e) (true_or_false (is_hidden m' n))
+  shown_kept n h = ⊎_elim (λ t. absurd (true_not_false (F.hid n t) h)) (λ e. e) (cases_Bool (is_hidden m' n))
 
   pub copy_slot_kept : (c : ℕ) → is_hidden m' c ≡ true → slot_of M'.node (copy_place m' c) ≡ slot_of M.node (copy_place m c)
   copy_slot_kept c h =

@@ -1,5 +1,5 @@
--- Preparing an end and linking ports over lent tables leave the graph, and give the answer, that their definitions say.
-use Rattle.std.specs.Prelude.{◌≡◌, refl, Bool, true, false, cond, List, ◌⊎◌, ℕ, ◌+◌, ◌*◌, ◌≤◌, ◌<◌, Option, Some, None, Result, Ok, Err}
+-- Preparing an end and linking ports on a lent graph leave the graph by value, and give the answer, that their definitions say.
+use Rattle.std.specs.Prelude.{◌≡◌, refl, Bool, true, false, cond, List, ℕ, ◌+◌, ◌*◌, ◌≤◌, ◌<◌, Option, Some, None, Result, Ok, Err}
 use Rattle.std.proofs.Common.{sym, ap, ◌∙◌, arith}
 use Rattle.port_tables.specs.Limits.{port_slots, node_ports, present}
 use Rattle.port_tables.specs.Entries.{ports_on, same_side, port#}
@@ -9,7 +9,6 @@ use Rattle.portgraph.specs.Calls.{with_links}
 use Rattle.portgraph.specs.Resize.{set_num_ports}
 use Rattle.portgraph.specs.Lent.{graph_in}
 use Rattle.portgraph.specs.LookupSteps.{found_block_fits}
-use Rattle.portgraph.specs.GoodSlots.{zero_is_not_one}
 use Rattle.port_tables.specs.declared.direction.Direction.{Direction}
 use Rattle.port_tables.specs.declared.direction.Direction.TheVariants.{Incoming, Outgoing}
 use Rattle.port_tables.specs.declared.index.NodeIndex.{NodeIndex}
@@ -23,15 +22,15 @@ use Rattle.multiportgraph.specs.WellFormed.{MultiWf}
 use Rattle.multiportgraph.specs.PrepareSteps.{lower_wf}
 use Rattle.multiportgraph.specs.GrowLaws.{GrowTables, by_copy}
 use Rattle.multiportgraph.specs.TableSteps.{Growing, grow_full, grow_told, grow_done}
-use Rattle.multiportgraph.specs.LinkSteps.{is_ready, is_full, others_stay, still_wf, first_ready_lem, first_full, seen_told}
+use Rattle.multiportgraph.specs.LinkSteps.{is_ready, others_stay, still_wf, first_ready_lem, seen_told}
 use Rattle.multiportgraph.specs.NamedLaws.{both_joined}
 use Rattle.multi_tables.specs.TableReads.{far_in, last_beside, grown_incoming, grown_outgoing}
 use Rattle.multiportgraph.specs.MultiLent.{Totals, multi_in, totals_counts, totals_links, prepared_in}
 use Rattle.multiportgraph.specs.LentSteps.{set_kept, link_parts}
 use Rattle.multiportgraph.specs.Needs.{need_of, takes_of, room_for}
-use Rattle.multiportgraph.specs.NeedLaws.{again_ready, need_stays, first_finds_room, second_still, second_finds_room, room_lacks}
+use Rattle.multiportgraph.specs.NeedLaws.{again_ready, need_stays, second_still, second_finds_room, room_lacks}
 use Rattle.multiportgraph.specs.declared.multiportgraph.MultiPortGraph.{MultiPortGraph}
-use Rattle.multi_tables.specs.declared.answers.Refusal.TheVariants.{NoRoom, UnknownPort, HiddenPort, UnknownSecondPort, IncompatibleDirections}
+use Rattle.multi_tables.specs.declared.answers.Refusal.TheVariants.{NoRoom, HiddenPort, UnknownSecondPort, IncompatibleDirections}
 use Rattle.multiportgraph.specs.declared.multiportgraph.PortsLinked.{PortsLinked}
 use Rattle.multi_tables.specs.declared.seen.SeenPort.{SeenPort}
 use Rattle.multi_tables.specs.declared.seen.SeenPort.TheVariants as seen_port
@@ -79,14 +78,14 @@ module _ (nodes links owners heads : List ℕ) (marks flags : List Bool) (totals
         count_is = e₃ ∙ sym (ap (λ (v : ℕ). count_in (meta_at whole.graph v) d) b.copy ∙ ap (λ (v : Option NodeMeta). count_in v d) b.meta);
       }
 
-  pub grow_full_in : (tag : Result ℕ SetError → ℕ) → ((q : ℕ) → tag (Ok q) ≡ 0) → (tag a ≡ 1) ⊎ ((tag a ≡ 2) ⊎ ((tag a ≡ 3) ⊎ (tag a ≡ 4))) → {totals' : Totals} → totals' ≡ totals_counts totals counts₁ →
+  pub grow_full_in : ((q : ℕ) → a ≡ Ok q → ⊥) → {totals' : Totals} → totals' ≡ totals_counts totals counts₁ →
       ◌≡◌ {A = Prepared} (record { graph = multi_in nodes₁ links₁ owners₁ heads₁ marks flags totals'; end = None }) (prepared_as whole (grow whole c d))
-  grow_full_in tag zeroth t {totals'} h =
+  grow_full_in none {totals'} h =
       let same : multi_in nodes₁ links₁ owners₁ heads₁ marks flags totals' ≡ whole =
       ap (multi_in nodes₁ links₁ owners₁ heads₁ marks flags) h
-      ∙ ap (with_graph whole) (f₄ ∙ set_kept (graph_in nodes links owners heads totals.counts) c i o (3 * node_ports) tag zeroth f₅ t) in
+      ∙ ap (with_graph whole) (f₄ ∙ set_kept (graph_in nodes links owners heads totals.counts) c i o (3 * node_ports) f₅ none) in
       ap (λ (v : MultiPortGraph). record { graph = v; end = None }) same
-      ∙ (grow_full growing {r = record { graph = graph_in nodes₁ links₁ owners₁ heads₁ counts₁; answer = a }} f₁ f₂ refl (λ v. record { graph = f₄ v; answer = f₅ v }) tag zeroth t
+      ∙ (grow_full growing {r = record { graph = graph_in nodes₁ links₁ owners₁ heads₁ counts₁; answer = a }} f₁ f₂ refl (λ v. record { graph = f₄ v; answer = f₅ v }) none
       ∙ ap (λ (v : ℕ). prepared_as whole (grow whole v d)) b.copy)
 
   module _ {q : ℕ} (t : a ≡ Ok q) where
@@ -114,19 +113,10 @@ module _ (nodes links owners heads : List ℕ) (marks flags : List Bool) (totals
 
 -- Linking.
 
--- an end that is not prepared leaves the graph
-unchanged : (m : MultiPortGraph) (p : hiding.Prepared) {g : MultiPortGraph} (r : Option (ℕ × ℕ)) → prepared_in g r ≡ prepared_as m p → r ≡ None → g ≡ m
-unchanged m (hiding.ready k q o) {g} r e t = absurd (zero_is_not_one (let u : ◌≡◌ {A = Option (ℕ × ℕ)} (Some (q, o)) None = ap (λ (s : Prepared). s.end) (sym e) ∙ t in cc))
-unchanged m hiding.full r e t = ap (λ (s : Prepared). s.graph) e
-
 module _ (m : MultiPortGraph) (a : ℕ) (d : Direction) {g : MultiPortGraph} (r : Option (ℕ × ℕ)) (e : prepared_in g r ≡ prepared_as m (prepare m a d)) where
   -- the second port is not live
   pub first_parts : (b : ℕ) → {n : ℕ × ℕ} → r ≡ Some n → (g ≡ (link_first m b (prepare m a d)).graph) × (Err (UnknownSecondPort (port# b)) ≡ (link_first m b (prepare m a d)).answer)
   first_parts b {n} t = link_parts (first_ready_lem m a d b (prepared_in g r) e t refl)
-
-  pub first_none : (b : ℕ) → r ≡ None → (g ≡ (link_first m b (prepare m a d)).graph) × (Err NoRoom ≡ (link_first m b (prepare m a d)).answer)
-  first_none b t =
-      link_parts (first_full m a d b (prepared_in g r) e t (ap (λ (x : MultiPortGraph). link_refused x NoRoom) (unchanged m (prepare m a d) r e t)))
 
   -- a port with itself
   pub self_parts : OnBlock m a d → {n : ℕ × ℕ} → r ≡ Some n →
@@ -142,33 +132,12 @@ module _ (m : MultiPortGraph) (a : ℕ) (d : Direction) {g : MultiPortGraph} (r 
       one_side Incoming = refl
       one_side Outgoing = refl
 
-  pub self_none : r ≡ None → (g ≡ (link_live m a d a d (prepare m a d)).graph) × (Err NoRoom ≡ (link_live m a d a d (prepare m a d)).answer)
-  self_none t =
-      link_parts (ap (λ (x : MultiPortGraph). link_refused x NoRoom) (unchanged m (prepare m a d) r e t) ∙ sym (ap (link_live m a d a d) (is_full m (prepare m a d) (prepared_in g r) e t)))
-
 -- the first end is ready
 module _ {m : MultiPortGraph} {a : ℕ} {d : Direction} {x o b : ℕ} {e : Direction} (w : FirstReady m a d x o b e) {k : MultiPortGraph} (s : Option (ℕ × ℕ)) (j : prepared_in k s ≡ prepared_as m (prepare m b e)) where
-  by_second : (p : hiding.Prepared) → prepare m b e ≡ p → link_live m a d b e (prepare m a d) ≡ link_second m a d x o b e p
-  by_second p q = ap (link_live m a d b e) w.is ∙ ap (link_second m a d x o b e) q
-
-  pub second_none : s ≡ None → (k ≡ (link_live m a d b e (prepare m a d)).graph) × (Err NoRoom ≡ (link_live m a d b e (prepare m a d)).answer)
-  second_none t =
-      link_parts (ap (λ (v : MultiPortGraph). link_refused v NoRoom) (unchanged m (prepare m b e) s j t) ∙ sym (by_second hiding.full (is_full m (prepare m b e) (prepared_in k s) j t)))
-
   module _ {n : ℕ × ℕ} (t : s ≡ Some n) where
-    second_is : prepare m b e ≡ hiding.ready k n.0 n.1
-    second_is = is_ready m (prepare m b e) (prepared_in k s) j t
-
     -- the graph after the second end is one of the calls
     pub second_after : MultiWf k
     second_after = still_wf w.both.second (prepared_in k s) j t
-
-    pub second_same : same_side d e ≡ true →
-        (k ≡ (link_live m a d b e (prepare m a d)).graph) × (Err (IncompatibleDirections (port# x) (port# n.0) d) ≡ (link_live m a d b e (prepare m a d)).answer)
-    second_same c =
-        link_parts (sym (by_second (hiding.ready k n.0 n.1) second_is
-        ∙ ap (λ (v : Bool). cond v (link_refused k (IncompatibleDirections (port# x) (port# n.0) d))
-        (record { graph = with_graph k (Rattle.portgraph.specs.Calls.link_ports k.graph x n.0).graph; answer = Ok (subport# a o, subport# b n.1) })) c))
 
     pub second_linked : same_side d e ≡ false → {l : List ℕ} → l ≡ tables.link_both k.graph.port_link x n.0 →
         (with_graph k (with_links k.graph l (k.graph.link_count + 1)) ≡ (link_live m a d b e (prepare m a d)).graph)
@@ -176,7 +145,7 @@ module _ {m : MultiPortGraph} {a : ℕ} {d : Direction} {x o b : ℕ} {e : Direc
     second_linked c q =
         link_parts (both_joined w.both {r = record { graph = m; end = Some (x, o) }} {s = prepared_in k s} (ap (prepared_as m) (sym w.is)) refl j t c q)
 
--- the same over lent tables
+-- the same on a lent graph
 pub second_linked_in : {m : MultiPortGraph} {a : ℕ} {d : Direction} {x o b : ℕ} {e : Direction} (w : FirstReady m a d x o b e) (nodes₁ : List ℕ) {links₁ owners₁ heads₁ : List ℕ} {marks₁ flags₁ : List Bool} {totals₁ : Totals} (s : Option (ℕ × ℕ)) {n : ℕ × ℕ} →
     prepared_in (multi_in nodes₁ links₁ owners₁ heads₁ marks₁ flags₁ totals₁) s ≡ prepared_as m (prepare m b e) → s ≡ Some n → same_side d e ≡ false →
     {l : List ℕ} {totals' : Totals} → l ≡ tables.link_both links₁ x n.0 → totals' ≡ totals_links totals₁ (totals₁.counts.link_count + 1) →
@@ -201,9 +170,6 @@ module _ (nodes links owners heads : List ℕ) (marks flags : List Bool) (totals
   both_lack q = link_parts (sym (room_lacks nodes links owners heads marks flags totals w apart (room false q)))
 
   module _ (q : c ≡ true) {g : MultiPortGraph} (r : Option (ℕ × ℕ)) (h : prepared_in g r ≡ prepared_as m (prepare m a d)) where
-    pub first_found : r ≡ None → ⊥
-    first_found t = first_finds_room nodes links owners heads marks flags totals w apart (room true q) (is_full m (prepare m a d) (prepared_in g r) h t)
-
     module _ {n : ℕ × ℕ} (t : r ≡ Some n) where
       is : prepare m a d ≡ hiding.ready g n.0 n.1
       is = is_ready m (prepare m a d) (prepared_in g r) h t
@@ -232,16 +198,6 @@ module _ (nodes links owners heads : List ℕ) (marks flags : List Bool) (totals
           (z.0 ∙ ap (λ (l : PortsLinked). l.graph) s, z.1 ∙ ap (λ (l : PortsLinked). l.answer) s)
 
 -- How the ports are seen.
-
-module _ (m : MultiPortGraph) (a b : ℕ) {s : SeenPort} (ea : s ≡ seen_as (seen m a)) where
-  pub call_unknown : s ≡ seen_port.Dead → (m ≡ (link_pair_if false present m a b).graph) × (Err (UnknownPort (port# a)) ≡ (link_pair_if false present m a b).answer)
-  unfolding link_pair_if
-  call_unknown t = let q = seen_told (seen m a) ea t in link_parts (rw q)
-
-  pub call_hidden : s ≡ seen_port.Hidden → (m ≡ (link_pair_if false present m a b).graph) × (Err (HiddenPort (port# a)) ≡ (link_pair_if false present m a b).answer)
-  unfolding link_pair_if
-  call_hidden t = let q = seen_told (seen m a) ea t in link_parts (rw q)
-
 module _ {m : MultiPortGraph} {a : ℕ} (b : ℕ) {d : Direction} (w : OnBlock m a d) {s : SeenPort} (eb : s ≡ seen_as (seen m b)) where
   pub call_first : s ≡ seen_port.Dead → {g : MultiPortGraph} {y : Result (SubportIndex × SubportIndex) Refusal} → (g ≡ (link_first m b (prepare m a d)).graph) × (y ≡ (link_first m b (prepare m a d)).answer) → (g ≡ (link_pair_if false present m a b).graph) × (y ≡ (link_pair_if false present m a b).answer)
   call_first t h =

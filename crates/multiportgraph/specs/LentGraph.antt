@@ -8,14 +8,9 @@ use Rattle.portgraph.specs.LentWords.{words_fixed}
 use Rattle.port_tables.specs.declared.node_entry.NodeSlot.{NodeSlot}
 use Rattle.portgraph.specs.declared.portgraph.PortGraph.{PortGraph}
 use Rattle.port_tables.specs.declared.lent.Counts.{Counts}
-use Rattle.multiportgraph.specs.Graph.{multi, with_graph}
+use Rattle.multiportgraph.specs.Graph.{with_graph}
 use Rattle.multiportgraph.specs.MultiLent.{Totals, multi_in}
 use Rattle.multiportgraph.specs.declared.multiportgraph.MultiPortGraph.{MultiPortGraph}
-
-pub multi_made : (nodes links owners heads : List ℕ) (marks flags : List Bool) (totals : Totals) (g : PortGraph) → g ≡ graph_in nodes links owners heads totals.counts
-    → ◌≡◌ {A = MultiPortGraph} (multi g marks flags totals.copies totals.subs totals.release) (multi_in nodes links owners heads marks flags totals)
-multi_made nodes links owners heads marks flags totals g e =
-    ap (λ (x : PortGraph). multi x marks flags totals.copies totals.subs totals.release) e
 
 pub multi_stored : (m : MultiPortGraph) (nodes links owners heads : List ℕ) (counts : Counts) → graph_in nodes links owners heads counts ≡ m.graph
     → multi_in nodes links owners heads m.multiport m.copy_node (record { counts = counts; copies = m.copy_node_count; subs = m.subport_count; release = m.release }) ≡ m

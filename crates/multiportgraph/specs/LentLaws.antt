@@ -1,19 +1,19 @@
 -- What is read off lent tables is what the graph says, and a sound graph stays one where hidden nodes go.
-use Rattle.std.specs.Prelude.{◌≡◌, Bool, List, ℕ, ◌-◌, replicate, Option, Some, None, Ok}
+use Rattle.std.specs.Prelude.{◌≡◌, Bool, List, ℕ, ◌-◌, Option, Some, None, Ok}
 use Rattle.std.proofs.Math.Path.{refl, ap}
 use Rattle.std.proofs.Common.{sym, ◌∙◌, subst, length-set}
 use Rattle.std.proofs.Math.Bool.{true, false, cond}
 use native.Mathlib.Omega.{arith}
 use Rattle.std.proofs.Math.Dec.{eqb}
 use borrow.Author.Tests.{eqb-true}
-use Rattle.port_tables.specs.Limits.{node_slots, port_slots, free_lists}
+use Rattle.port_tables.specs.Limits.{port_slots}
 use Rattle.port_tables.specs.Entries.{port_entry, port#}
 use Rattle.port_tables.specs.Tables.{at}
 use Rattle.portgraph.specs.Lookups.{count_in, num_ports}
 use Rattle.portgraph.specs.Model.{Wf}
-use Rattle.portgraph.specs.Lent.{node_words, graph_in}
+use Rattle.portgraph.specs.Lent.{graph_in}
 use Rattle.port_tables.specs.NodeWords.{meta_in}
-use Rattle.portgraph.specs.LentSteps.{zeros_are_new, meta_read, index_read}
+use Rattle.portgraph.specs.LentSteps.{meta_read, index_read}
 use Rattle.port_tables.specs.declared.direction.Direction.{Direction}
 use Rattle.port_tables.specs.declared.direction.Direction.TheVariants.{Incoming, Outgoing}
 use Rattle.port_tables.specs.declared.port_entry.PortEntry.{PortEntry}
@@ -22,19 +22,13 @@ use Rattle.multiportgraph.specs.Reading.{link_number, far_port, owner_of, port_n
 use Rattle.multiportgraph.specs.WellFormed.{MultiWf}
 use Rattle.multi_tables.specs.Forms.{flag_at}
 use Rattle.multi_tables.specs.FormSteps.{flag_is}
-use Rattle.multiportgraph.specs.CallSteps.{empty_made, lower_wf}
+use Rattle.multiportgraph.specs.CallSteps.{lower_wf}
 use Rattle.multiportgraph.specs.BlockSteps.{wf_remove_copy}
 use Rattle.multi_tables.specs.TableReads.{far_in, owner_in}
-use Rattle.multiportgraph.specs.MultiLent.{Totals, multi_in, no_totals, port_of_in, copy_side_in, far_entry, far_port_in, copy_node_in, Sound}
+use Rattle.multiportgraph.specs.MultiLent.{Totals, multi_in, port_of_in, copy_side_in, far_entry, far_port_in, copy_node_in, Sound}
 use Rattle.multiportgraph.specs.declared.multiportgraph.MultiPortGraph.{MultiPortGraph}
-use Rattle.port_tables.specs.declared.release.Release.{Release}
-use Rattle.multiportgraph.specs.Graph.{empty_graph}
 use Rattle.multiportgraph.specs.HiddenNodes.{remove_copy, remove_lone, unsplit}
 use Rattle.port_tables.specs.declared.node_entry.NodeMeta.{NodeMeta}
-
--- tables without anything are the empty graph
-pub empty_in : (release : Release) → multi_in (replicate node_words 0) (replicate port_slots 0) (replicate port_slots 0) (replicate free_lists 0) (replicate port_slots false) (replicate node_slots false) (no_totals release) ≡ empty_graph release
-empty_in release = empty_made release _ zeros_are_new
 
 -- What is read.
 module _ (nodes links owners heads : List ℕ) (marks flags : List Bool) (totals : Totals) where

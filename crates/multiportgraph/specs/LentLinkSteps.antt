@@ -1,6 +1,6 @@
--- Resizing a block and splitting a port over lent tables leave the graph, and give the answer, that their definitions say.
-use Rattle.std.specs.Prelude.{◌≡◌, refl, Bool, true, false, cond, List, ◌⊎◌, ℕ, ◌+◌, ◌-◌, ◌≤◌, leb, Option, Some, None, Ok, Err, Result}
-use Rattle.std.proofs.Common.{sym, ap, ◌∙◌, subst, ⊎_elim, arith}
+-- Resizing a block and splitting a port on a lent graph leave the graph by value, and give the answer, that their definitions say.
+use Rattle.std.specs.Prelude.{◌≡◌, refl, Bool, true, false, cond, List, ℕ, ◌+◌, ◌-◌, ◌≤◌, leb, Option, Some, None, Ok, Err, Result}
+use Rattle.std.proofs.Common.{sym, ap, ◌∙◌, subst, arith}
 use Rattle.port_tables.specs.Limits.{node_slots, port_slots, node_ports}
 use Rattle.port_tables.specs.Tables.{at, link_count}
 use Rattle.portgraph.specs.Model.{Wf}
@@ -39,35 +39,32 @@ subports_at_small Incoming = omega arith
 subports_at_small Outgoing = omega arith
 
 -- a refused node changes nothing
-add_kept : (g : PortGraph) (i o : ℕ) (tag : Result (NodeIndex × PortIndex) AddError → ℕ) → ((n : NodeIndex) (f : PortIndex) → tag (Ok (n, f)) ≡ 0) → {a : Result (NodeIndex × PortIndex) AddError} → a ≡ (add_node g i o).answer →
-    (tag a ≡ 1) ⊎ (tag a ≡ 2) → (add_node g i o).graph ≡ g
+add_kept : (g : PortGraph) (i o : ℕ) {a : Result (NodeIndex × PortIndex) AddError} → a ≡ (add_node g i o).answer → ((x : NodeIndex × PortIndex) → a ≡ Ok x → ⊥) →
+    (add_node g i o).graph ≡ g
 unfolding add_node_under
-add_kept g i o tag zeroth {a} e t = go (leb (i + o) node_ports) (find_slot g.node_free g.node_len) (find_block g.port_free g.port_len (i + o)) e
+add_kept g i o {a} e none = go (leb (i + o) node_ports) (find_slot g.node_free g.node_len) (find_block g.port_free g.port_len (i + o)) e
   where
-    done : (n : NodeIndex) (f : PortIndex) → a ≡ Ok (n, f) → ⊥
-    done n f h = let z : tag a ≡ 0 = ap tag h ∙ zeroth n f in ⊎_elim (λ u. omega arith) (λ u. omega arith) t
-
     go : (c : Bool) (x y : Option ℕ) → a ≡ (cond c (add_found g i o x y) (record { graph = g; answer = Err add_error.TooManyPorts })).answer →
         (cond c (add_found g i o x y) (record { graph = g; answer = Err add_error.TooManyPorts })).graph ≡ g
     go false x y h = refl
     go true None y h = refl
     go true (Some n) None h = refl
-    go true (Some n) (Some f) h = absurd (done _ _ h)
+    go true (Some n) (Some f) h = absurd (none _ h)
 
 module _ (nodes links owners heads : List ℕ) (marks flags : List Bool) (totals : Totals) where
   module _ (p : ℕ) (d : Direction) {i o : ℕ} (nodes₁ : List ℕ) {links₁ owners₁ heads₁ : List ℕ} {counts₁ : Counts} {a : Result (NodeIndex × PortIndex) AddError} (e₁ : i ≡ copy_incoming d) (e₂ : o ≡ copy_outgoing d)
       (e₃ : graph_in nodes₁ links₁ owners₁ heads₁ counts₁ ≡ (add_node (graph_in nodes links owners heads totals.counts) i o).graph)
       (e₄ : a ≡ (add_node (graph_in nodes links owners heads totals.counts) i o).answer) where
-    pub split_full_in : (tag : Result (NodeIndex × PortIndex) AddError → ℕ) → ((n : NodeIndex) (f : PortIndex) → tag (Ok (n, f)) ≡ 0) → (tag a ≡ 1) ⊎ (tag a ≡ 2) → {totals' : Totals} → totals' ≡ totals_counts totals counts₁ →
+    pub split_full_in : ((x : NodeIndex × PortIndex) → a ≡ Ok x → ⊥) → {totals' : Totals} → totals' ≡ totals_counts totals counts₁ →
         ◌≡◌ {A = Prepared} (record { graph = multi_in nodes₁ links₁ owners₁ heads₁ marks flags totals'; end = None })
         (prepared_as (multi_in nodes links owners heads marks flags totals) (split (multi_in nodes links owners heads marks flags totals) p d))
-    split_full_in tag zeroth t {totals'} h =
+    split_full_in none {totals'} h =
         let m = multi_in nodes links owners heads marks flags totals in
         let same : multi_in nodes₁ links₁ owners₁ heads₁ marks flags totals' ≡ m =
         ap (multi_in nodes₁ links₁ owners₁ heads₁ marks flags) h
-        ∙ ap (with_graph m) (e₃ ∙ add_kept (graph_in nodes links owners heads totals.counts) i o tag zeroth e₄ t) in
+        ∙ ap (with_graph m) (e₃ ∙ add_kept (graph_in nodes links owners heads totals.counts) i o e₄ none) in
         ap (λ (x : MultiPortGraph). record { graph = x; end = None }) same
-        ∙ split_full m p d {r = record { graph = graph_in nodes₁ links₁ owners₁ heads₁ counts₁; answer = a }} e₁ e₂ (λ v. record { graph = e₃ v; answer = e₄ v }) tag zeroth t
+        ∙ split_full m p d {r = record { graph = graph_in nodes₁ links₁ owners₁ heads₁ counts₁; answer = a }} e₁ e₂ (λ v. record { graph = e₃ v; answer = e₄ v }) none
 
     module _ (b : LinkedPort (multi_in nodes links owners heads marks flags totals) p d) where
       pub node_wf : Wf (graph_in nodes₁ links₁ owners₁ heads₁ counts₁)

@@ -1,8 +1,7 @@
--- Resizing a block over lent tables leaves the graph, and gives the answer, that its definition says.
-use Rattle.std.specs.Prelude.{◌≡◌, refl, Bool, List, ◌⊎◌, ℕ, ◌+◌, ◌-◌, ◌≤◌, length, take, Option, Some, None, Result, Ok, Err}
-use Rattle.std.proofs.Common.{sym, ap, ◌∙◌, subst, ⊎_elim, arith}
+-- Resizing a block on a lent graph leaves the graph by value, and gives the answer, that its definition says.
+use Rattle.std.specs.Prelude.{◌≡◌, refl, Bool, List, ℕ, ◌+◌, ◌-◌, ◌≤◌, length, take, Option, Some, Result, Ok, Err}
+use Rattle.std.proofs.Common.{sym, ap, ◌∙◌, subst, arith}
 use Rattle.std.proofs.lemmas.List.Edits.{sets}
-use Rattle.std.proofs.Math.Seq.{length-sets}
 use Rattle.port_tables.specs.Limits.{node_ports}
 use Rattle.portgraph.specs.Lookups.{meta_at}
 use Rattle.portgraph.specs.Model.{Wf}
@@ -11,12 +10,12 @@ use Rattle.portgraph.specs.ResizeLaws.{wf_set}
 use Rattle.portgraph.specs.Lent as lower
 use Rattle.portgraph.specs.Lent.{graph_in}
 use Rattle.port_tables.specs.NodeWords.{meta_in}
-use Rattle.portgraph.specs.LentSteps.{meta_read, resizes, entry_of_some}
+use Rattle.portgraph.specs.LentSteps.{meta_read, resizes}
+use Rattle.portgraph.specs.LookupSteps.{entry_of_meta}
 use Rattle.port_tables.specs.declared.node_entry.NodeMeta.{NodeMeta}
 use Rattle.port_tables.specs.declared.lent.Counts.{Counts}
 use Rattle.portgraph.specs.declared.portgraph.PortGraph.{PortGraph}
 use Rattle.multiportgraph.specs.Calls.{set_as, set_counts}
-use Rattle.multi_tables.specs.MarkLaws.{length_lay_marks}
 use Rattle.multiportgraph.specs.BlockSteps.{set_block, block_in_lem, copies_dropped_most, copies_dropped_few, list_taken}
 use Rattle.multiportgraph.specs.PrepareSteps.{lower_wf}
 use Rattle.multiportgraph.specs.MultiLent.{Totals, multi_in, totals_counts, Sound, FitsIf, Resizes, settled}
@@ -30,21 +29,7 @@ use Rattle.multi_tables.specs.declared.answers.Refusal.{Refusal}
 use Rattle.portgraph.specs.declared.resize.SetError.TheVariants as set_error
 use Rattle.portgraph.specs.declared.resize.SetError.{SetError}
 
-pub length_moved : (marks : List Bool) (x y : Option NodeMeta) → length (marks_moved marks x y) ≡ length marks
-length_moved marks None y = refl
-length_moved marks (Some a) None = refl
-length_moved marks (Some a) (Some b) = length_lay_marks marks a b
-
 -- What follows a change of counts.
-
-pub settled_refused : (m : MultiPortGraph) (n : ℕ) (k : NodeMeta) (l : List ℕ) (tag : Result ℕ SetError → ℕ) → ((e : ℕ) → tag (Ok e) ≡ 0) → (a : Result ℕ SetError) →
-    (tag a ≡ 1) ⊎ ((tag a ≡ 2) ⊎ ((tag a ≡ 3) ⊎ (tag a ≡ 4))) → m ≡ settled m n k l a
-settled_refused m n k l tag zeroth (Ok e) t =
-    let z = zeroth e in absurd (⊎_elim (λ u. omega arith) (⊎_elim (λ u. omega arith) (⊎_elim (λ u. omega arith) (λ u. omega arith))) t)
-settled_refused m n k l tag zeroth (Err set_error.TooManyPorts) t = refl
-settled_refused m n k l tag zeroth (Err set_error.UnknownNode) t = refl
-settled_refused m n k l tag zeroth (Err set_error.MovesTooShort) t = refl
-settled_refused m n k l tag zeroth (Err set_error.NoRoom) t = refl
 
 module _ (nodes links owners heads : List ℕ) (marks flags : List Bool) (totals : Totals) (s : Sound (multi_in nodes links owners heads marks flags totals)) (n : ℕ) {x : Option NodeMeta} (g : x ≡ meta_in nodes n) where
   here : x ≡ meta_at (graph_in nodes links owners heads totals.counts) n
@@ -54,14 +39,6 @@ module _ (nodes links owners heads : List ℕ) (marks flags : List Bool) (totals
   present_fits = found_fits (graph_in nodes links owners heads totals.counts) s.wf n x here
 
   module _ (k : NodeMeta) {marks' : List Bool} (h : marks' ≡ marks_moved marks (Some k) x) where
-    pub follow_sound : Sound (multi_in nodes links owners heads marks' flags totals)
-    follow_sound =
-        record {
-          wf = s.wf;
-          marks_long = ap length h ∙ (length_moved marks (Some k) x ∙ s.marks_long);
-          flags_long = s.flags_long;
-        }
-
     pub settled_done : (l : List ℕ) {after : MultiPortGraph} {a : Result ℕ SetError} {q : ℕ} → a ≡ Ok q → after ≡ remove_all (multi_in nodes links owners heads marks' flags totals) l →
         after ≡ settled (multi_in nodes links owners heads marks flags totals) n k l a
     settled_done l {after} {a} {q} t p =
@@ -97,15 +74,10 @@ module _ (nodes links owners heads : List ℕ) (marks flags : List Bool) (totals
 
   -- what the single-link graph asks
   pub lower_resizes : lower.Resizes (graph_in nodes links owners heads totals.counts) n k i o
-  lower_resizes = resizes (graph_in nodes links owners heads totals.counts) (lower_wf m r.wf) n k i o (entry_of_some _ k r.meta) r.few
+  lower_resizes = resizes (graph_in nodes links owners heads totals.counts) (lower_wf m r.wf) n k i o (entry_of_meta _ k r.meta) r.few
 
   -- the list of the hidden nodes of dropped ports
   module _ (list : List ℕ) {list' : List ℕ} {c : ℕ} (u : c ≡ length (copies_dropped m k i o)) (v : list' ≡ sets list 0 (copies_dropped m k i o)) (long : length (copies_dropped m k i o) ≤ length list) where
-    pub listed_long : c ≤ length list'
-    listed_long =
-        let l = ap length v ∙ length-sets list 0 (copies_dropped m k i o) in
-        omega arith
-
     pub listed_is : take c list' ≡ copies_dropped m k i o
     listed_is = list_taken list list' (copies_dropped m k i o) c long v u
 

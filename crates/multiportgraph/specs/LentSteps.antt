@@ -1,7 +1,7 @@
--- Each call over lent tables leaves the graph, and gives the answer, that its definition says.
-use Rattle.std.specs.Prelude.{◌≡◌, refl, Bool, true, false, cond, List, ◌∷◌, ◌⊎◌, ℕ, zero, suc, ◌+◌, ◌-◌, get_or, Option, Some, None, Result, Ok, Err}
+-- Each call on a lent graph leaves the graph by value, and gives the answer, that its definition says.
+use Rattle.std.specs.Prelude.{◌≡◌, refl, Bool, true, false, cond, List, ◌∷◌, ℕ, zero, suc, ◌+◌, ◌-◌, get_or, Option, Some, None, Result, Ok, Err}
 use Rattle.std.proofs.Math.Path.{sym, ap}
-use Rattle.std.proofs.Common.{◌∙◌, subst, ⊎_elim, arith}
+use Rattle.std.proofs.Common.{◌∙◌, subst}
 use borrow.Author.Tests.{eq-eqb, ne_eqb}
 use Rattle.port_tables.specs.Limits.{node_slots, port_slots}
 use Rattle.port_tables.specs.Entries.{reversed, port_entry}
@@ -12,7 +12,7 @@ use Rattle.portgraph.specs.Model.{Wf}
 use Rattle.portgraph.specs.Calls.{add_node, remove_node}
 use Rattle.portgraph.specs.Resize.{Plan, refuse, same, inside, anew, plan_of, set_by, set_num_ports, set_num_ports_under}
 use Rattle.port_tables.specs.ResizeLinks.{BlockFits}
-use Rattle.portgraph.specs.Lent.{port_index_in, graph_in}
+use Rattle.portgraph.specs.Lent.{graph_in}
 use Rattle.port_tables.specs.NodeWords.{meta_in}
 use Rattle.portgraph.specs.LentSteps.{meta_read}
 use Rattle.port_tables.specs.declared.direction.Direction.{Direction}
@@ -25,7 +25,7 @@ use Rattle.port_tables.specs.declared.lent.Counts.{Counts}
 use Rattle.portgraph.specs.declared.portgraph.PortGraph.{PortGraph}
 use Rattle.portgraph.specs.declared.alloc.NodeAdded as lower_added
 use Rattle.portgraph.specs.declared.alloc.NodeRemoved as lower_removed
-use Rattle.multiportgraph.specs.Reading.{port_number, is_hidden, is_split}
+use Rattle.multiportgraph.specs.Reading.{is_hidden, is_split}
 use Rattle.multi_tables.specs.Forms.{subport#, flag_at, put_flag, lay_marks}
 use Rattle.multi_tables.specs.TableReads.{far_in, owner_in, wire_in, wire_end_in}
 use Rattle.multiportgraph.specs.Calls.{added_as, add_block, remove_block, cut_port, cut_sub, link_sub_if, subport_link}
@@ -139,11 +139,6 @@ module _ (nodes links owners heads : List ℕ) (marks flags : List Bool) (totals
 
     -- two ends are linked, or refused
     module _ (p o q r : ℕ) {e : Result (ℕ × ℕ) Refusal} (is : e ≡ link_named marks links owners flags p o q r) where
-      pub link_refused_in : {x : Refusal} → e ≡ Err x →
-          (multi_in nodes links owners heads marks flags totals ≡ (link_sub_if false (multi_in nodes links owners heads marks flags totals) p o q r).graph)
-          × (Err x ≡ (link_sub_if false (multi_in nodes links owners heads marks flags totals) p o q r).answer)
-      link_refused_in t = link_parts (link_done w p o q r is t refl refl refl)
-
       pub link_made_in : {x y n : ℕ} {s t : SubportIndex} {links' : List ℕ} {totals' : Totals} → e ≡ Ok (x, y) → s ≡ read_in marks p o → t ≡ read_in marks q r →
           links' ≡ link_both links x y → n ≡ totals.counts.link_count + 1 → totals' ≡ totals_links totals n →
           (multi_in nodes links' owners heads marks flags totals' ≡ (link_sub_if false (multi_in nodes links owners heads marks flags totals) p o q r).graph)
@@ -155,15 +150,6 @@ module _ (nodes links owners heads : List ℕ) (marks flags : List Bool) (totals
           (ap (multi_in nodes links' owners heads marks flags) (h ∙ ap (totals_links totals) d) ∙ u.0, u.1)
 
 -- Leaves.
-
-module _ (nodes : List ℕ) (n : ℕ) (d : Direction) (i : ℕ) {x : Option PortIndex} (e : x ≡ port_index_in nodes n (record { direction = d; index = i })) where
-  pub port_found : {p : PortIndex} → x ≡ Some p → p.0 ≡ port_of_in nodes n d i
-  unfolding port_of_in
-  port_found h = ap port_number (sym h ∙ e)
-
-  pub port_none : x ≡ None → 0 ≡ port_of_in nodes n d i
-  unfolding port_of_in
-  port_none h = ap port_number (sym h ∙ e)
 
 module _ (nodes : List ℕ) (marks : List Bool) (n : ℕ) {a : ℕ} (e : a ≡ count_in (meta_in nodes n) Incoming) where
   pub side_many : (a ≡ 1 → ⊥) → Outgoing ≡ copy_side_in nodes marks n
@@ -250,9 +236,6 @@ module _ (nodes links owners heads : List ℕ) (marks flags : List Bool) (totals
 
 -- Marks that move.
 
-pub recount_first : (marks : List Bool) (x y : Option NodeMeta) → x ≡ None → marks ≡ marks_moved marks x y
-recount_first marks x y e = ap (λ (k : Option NodeMeta). marks_moved marks k y) (sym e)
-
 pub recount_second : (marks : List Bool) (x y : Option NodeMeta) (a : NodeMeta) → x ≡ Some a → y ≡ None → marks ≡ marks_moved marks x y
 recount_second marks x y a e f = λ i. marks_moved marks (sym e i) (sym f i)
 
@@ -274,30 +257,19 @@ removed_parts e = (ap (λ (x : NodeRemoved). x.graph) e, ap (λ (x : NodeRemoved
 pub whole_parts : {g : MultiPortGraph} {a : Result ℕ Refusal} {r : PortsSet} → ◌≡◌ {A = PortsSet} (record { graph = g; answer = a }) r → (g ≡ r.graph) × (a ≡ r.answer)
 whole_parts e = (ap (λ (x : PortsSet). x.graph) e, ap (λ (x : PortsSet). x.answer) e)
 
-pub set_parts : {g : MultiPortGraph} {a : Result ℕ Refusal} {r : PortsSet} {b b' : List ℕ} {z : Type 0} → (◌≡◌ {A = PortsSet} (record { graph = g; answer = a }) r) × (b ≡ b') × z → (g ≡ r.graph) × (a ≡ r.answer) × (b ≡ b')
-set_parts e = (ap (λ (x : PortsSet). x.graph) e.0, ap (λ (x : PortsSet). x.answer) e.0, e.1)
-
 -- a refused resize changes nothing
-pub set_kept : (g : PortGraph) (n i o room : ℕ) (tag : Result ℕ SetError → ℕ) → ((e : ℕ) → tag (Ok e) ≡ 0) → {a : Result ℕ SetError} → a ≡ (set_num_ports g n i o room).answer →
-    (tag a ≡ 1) ⊎ ((tag a ≡ 2) ⊎ ((tag a ≡ 3) ⊎ (tag a ≡ 4))) → (set_num_ports g n i o room).graph ≡ g
+pub set_kept : (g : PortGraph) (n i o room : ℕ) {a : Result ℕ SetError} → a ≡ (set_num_ports g n i o room).answer → ((e : ℕ) → a ≡ Ok e → ⊥) →
+    (set_num_ports g n i o room).graph ≡ g
 unfolding set_num_ports_under
-set_kept g n i o room tag zeroth {a} e t = go (plan_of g n i o room) e
+set_kept g n i o room {a} e none = go (plan_of g n i o room) e
   where
-    done : (k : ℕ) → a ≡ Ok k → ⊥
-    done k h =
-        let z : tag a ≡ 0 = ap tag h ∙ zeroth k in
-        ⊎_elim (λ u. omega arith) (⊎_elim (λ u. omega arith) (⊎_elim (λ u. omega arith) (λ u. omega arith))) t
-
     go : (p : Plan) → a ≡ (set_by g n i o p).answer → (set_by g n i o p).graph ≡ g
     go (refuse x) h = refl
     go same h = refl
-    go (inside k) h = absurd (done _ h)
-    go (anew k f) h = absurd (done _ h)
+    go (inside k) h = absurd (none _ h)
+    go (anew k f) h = absurd (none _ h)
 
 module _ (nodes links owners heads : List ℕ) (marks flags : List Bool) (totals : Totals) (w : MultiWf (multi_in nodes links owners heads marks flags totals)) where
-  abbrev found : ℕ → Option NodeMeta
-  found n = meta_at (graph_in nodes links owners heads totals.counts) n
-
   pub meta_told : (n : ℕ) (x y : Option NodeMeta) → x ≡ meta_in nodes n → x ≡ y → y ≡ meta_at (graph_in nodes links owners heads totals.counts) n
   meta_told n x y e f = sym f ∙ (e ∙ meta_read nodes links owners heads totals.counts n w.fine.holds.nodes_long)
 

@@ -85,6 +85,7 @@ pub mod LookupSteps
 pub mod StartSteps
 pub mod ScanReads
 pub mod WireSteps
+pub mod RangeSearches
 pub mod WalkSteps
 pub mod LinkWalkSteps
 pub mod SubportSteps

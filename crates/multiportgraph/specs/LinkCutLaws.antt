@@ -1,5 +1,6 @@
 -- The empty graph; adding a block; linking two free ends; cutting an end; the calls on subports.
 -- Each leaves a fine graph, with blocks and wires as said.
+use Rattle.std.proofs.lemmas.Bool.{cases_Bool}
 use Rattle.std.specs.Prelude.{◌≡◌, refl, Bool, true, false, cond, ◌||◌, List, [], ◌∷◌, ◌⊎◌, ℕ, ◌+◌, ◌-◌, ◌*◌, ◌≤◌, eqb, leb, ltb, length, get_or, replicate, Option, Some, None, Result, Ok, Err}
 use Rattle.std.proofs.Common.{sym, ◌∙◌, ap, subst, inl, inr, ⊎_elim, arith, eq-eqb, eqb-true, leb-true, ltb-true, ltb-false}
 use Rattle.std.proofs.lemmas.List.{length-replicate, get_or-replicate}
@@ -30,7 +31,7 @@ use Rattle.multi_tables.specs.Forms.{Port, dead, hidden, visible, End, inner, la
 use Rattle.multiportgraph.specs.Calls.{add_block, added_as, link_sub, link_sub_if, cut_sub}
 use Rattle.multiportgraph.specs.WellFormed.{copy_place, Fine, BlockIs, Seen, outer, lift, IsEnd, WireIn, SameBlocks, Wiring, SameWires, none}
 use Rattle.multiportgraph.specs.Ends.{BlockPort, EndOf, block_seen, end_read, ends_join_ends, outer_apart}
-use Rattle.multiportgraph.specs.HiddenStays.{same_wire, Alike, end_kept, kept_end, wire_kept, kept_wire, true_or_false, true_not_false, Frame, plain_frame, frame_fine, outer_kept, hidden_below, split_below}
+use Rattle.multiportgraph.specs.HiddenStays.{same_wire, Alike, end_kept, kept_end, wire_kept, kept_wire, true_not_false, Frame, plain_frame, frame_fine, outer_kept, hidden_below, split_below}
 use Rattle.multiportgraph.specs.declared.multiportgraph.MultiPortGraph.{MultiPortGraph}
 use Rattle.port_tables.specs.declared.release.Release.{Release}
 use Rattle.multi_tables.specs.declared.answers.SubportIndex.{SubportIndex}
@@ -241,7 +242,7 @@ end_is_same p q = go (at_spot (spot p.node p.side p.pos) q) refl
     go false e t = absurd (true_not_false t refl)
 
 pub end_is_other : (p q : Place) → (q ≡ p → ⊥) → end_is p q ≡ false
-end_is_other p q n = ⊎_elim (λ t. absurd (n (end_is_same p q t))) (λ e. e) (true_or_false (end_is p q))
+end_is_other p q n = ⊎_elim (λ t. absurd (n (end_is_same p q t))) (λ e. e) (cases_Bool (end_is p q))
 
 -- Cutting an end.
 
@@ -415,7 +416,7 @@ module _ {m : MultiPortGraph} {M : Model} (f : Fine m M) (incoming outgoing : �
       }
     where
       new_shown : is_hidden m (next_slot M) ≡ false
-      new_shown = ⊎_elim (λ t. absurd (gone_not_live (next_slot_gone f.good) (f.copy (next_slot M) t).here)) (λ e. e) (true_or_false (is_hidden m (next_slot M)))
+      new_shown = ⊎_elim (λ t. absurd (gone_not_live (next_slot_gone f.good) (f.copy (next_slot M) t).here)) (λ e. e) (cases_Bool (is_hidden m (next_slot M)))
 
 -- what each answer says of the graph after the call
 abbrev pub AddSays : MultiPortGraph → Model → ℕ → ℕ → MultiPortGraph → Result (NodeIndex × PortIndex) Refusal → Type 0

@@ -1,12 +1,11 @@
 -- What the code's steps of a link amount to: the ends that are prepared, and each refusal.
-use Rattle.std.specs.Prelude.{◌≡◌, refl, Bool, true, false, cond, ℕ, ◌+◌, ◌<◌, Option, Some, None, Ok}
+use Rattle.std.specs.Prelude.{◌≡◌, refl, Bool, false, cond, ℕ, ◌+◌, ◌<◌, Option, Some, None, Ok}
 use Rattle.std.proofs.Common.{sym, ◌∙◌, ap, subst}
 use Rattle.port_tables.specs.Entries.{port#, same_side}
 use Rattle.portgraph.specs.Calls.{link_ports}
 use Rattle.portgraph.specs.GoodSlots.{slot_in_block, zero_is_not_one}
 use Rattle.portgraph.specs.Model.{first_of, side_start, count_of}
 use Rattle.port_tables.specs.declared.direction.Direction.{Direction}
-use Rattle.port_tables.specs.declared.index.NodeIndex.{NodeIndex}
 use Rattle.portgraph.specs.declared.portgraph.PortsLinked as lower
 use Rattle.multiportgraph.specs.Reading.{seen}
 use Rattle.multi_tables.specs.Forms.{Port, dead, hidden, visible, subport#, seen_as}
@@ -16,7 +15,7 @@ use Rattle.multiportgraph.specs.WellFormed.{MultiWf}
 use Rattle.multiportgraph.specs.Ends.{block_seen, seen_block}
 use Rattle.multiportgraph.specs.PrepareLaws.{prepare_law}
 use Rattle.multiportgraph.specs.declared.multiportgraph.MultiPortGraph.{MultiPortGraph}
-use Rattle.multi_tables.specs.declared.answers.Refusal.TheVariants.{NoRoom, UnknownSecondPort, IncompatibleDirections}
+use Rattle.multi_tables.specs.declared.answers.Refusal.TheVariants.{UnknownSecondPort, IncompatibleDirections}
 use Rattle.multiportgraph.specs.declared.multiportgraph.PortsLinked.{PortsLinked}
 use Rattle.multi_tables.specs.declared.seen.SeenPort.{SeenPort}
 use Rattle.multi_tables.specs.declared.seen.SeenPort.TheVariants as seen_port
@@ -33,10 +32,6 @@ is_ready m (hiding.ready k q o) r {n} e t =
     let g : ◌≡◌ {A = ℕ × ℕ} n (q, o) = cc in
     λ i. hiding.ready (ap (λ (s : Prepared). s.graph) (sym e) i) (sym g i).0 (sym g i).1
 is_ready m hiding.full r {n} e t = absurd (zero_is_not_one (let u : ◌≡◌ {A = Option (ℕ × ℕ)} (Some n) None = sym t ∙ ap (λ (s : Prepared). s.end) e in cc))
-
-pub is_full : (m : MultiPortGraph) (p : hiding.Prepared) (r : Prepared) → r ≡ prepared_as m p → r.end ≡ None → p ≡ hiding.full
-is_full m hiding.full r e t = refl
-is_full m (hiding.ready k q o) r e t = absurd (zero_is_not_one (let u : ◌≡◌ {A = Option (ℕ × ℕ)} (Some (q, o)) None = ap (λ (s : Prepared). s.end) (sym e) ∙ t in cc))
 
 -- what stays of other ports of blocks where an end is prepared
 module _ {m : MultiPortGraph} {p : ℕ} {d : Direction} (b : OnBlock m p d) (r : Prepared) {n : ℕ × ℕ} (e : r ≡ prepared_as m (prepare m p d)) (t : r.end ≡ Some n) where
@@ -69,33 +64,14 @@ pub first_ready_lem : (m : MultiPortGraph) (a : ℕ) (d : Direction) (b : ℕ) (
     u ≡ link_refused r.graph (UnknownSecondPort (port# b)) → u ≡ link_first m b (prepare m a d)
 first_ready_lem m a d b r e t h = h ∙ sym (ap (link_first m b) (is_ready m (prepare m a d) r e t))
 
-pub first_full : (m : MultiPortGraph) (a : ℕ) (d : Direction) (b : ℕ) (r : Prepared) {u : PortsLinked} → r ≡ prepared_as m (prepare m a d) → r.end ≡ None →
-    u ≡ link_refused m NoRoom → u ≡ link_first m b (prepare m a d)
-first_full m a d b r e t h = h ∙ sym (ap (link_first m b) (is_full m (prepare m a d) r e t))
-
 -- Both ports are live.
 
 module _ (m : MultiPortGraph) (a : ℕ) (d : Direction) (b : ℕ) (e : Direction) (r : Prepared) (h : r ≡ prepared_as m (prepare m a d)) where
-  pub both_full : {u : PortsLinked} → r.end ≡ None → u ≡ link_refused m NoRoom → u ≡ link_live m a d b e (prepare m a d)
-  both_full t g = g ∙ sym (ap (link_live m a d b e) (is_full m (prepare m a d) r h t))
-
   module _ {n : ℕ × ℕ} (t : r.end ≡ Some n) (s : Prepared) (k : s ≡ prepared_as r.graph (prepare r.graph b e)) where
-    pub second_full : {u : PortsLinked} → s.end ≡ None → u ≡ link_refused m NoRoom → u ≡ link_live m a d b e (prepare m a d)
-    second_full v g =
-        g ∙ sym (ap (link_live m a d b e) (is_ready m (prepare m a d) r h t)
-        ∙ ap (link_second m a d n.0 n.1 b e) (is_full r.graph (prepare r.graph b e) s k v))
-
     both_ready_lem : {o : ℕ × ℕ} → s.end ≡ Some o → link_live m a d b e (prepare m a d) ≡ link_prepared s.graph a d n.0 n.1 b e o.0 o.1
     both_ready_lem {o} v =
         ap (link_live m a d b e) (is_ready m (prepare m a d) r h t)
         ∙ ap (link_second m a d n.0 n.1 b e) (is_ready r.graph (prepare r.graph b e) s k v)
-
-    pub one_side : {o : ℕ × ℕ} {u : PortsLinked} → s.end ≡ Some o → same_side d e ≡ true →
-        u ≡ link_refused s.graph (IncompatibleDirections (port# n.0) (port# o.0) d) → u ≡ link_live m a d b e (prepare m a d)
-    one_side {o} v c g =
-        g ∙ sym (both_ready_lem v
-        ∙ ap (λ (x : Bool). cond x (link_refused s.graph (IncompatibleDirections (port# n.0) (port# o.0) d))
-        (record { graph = with_graph s.graph (link_ports s.graph.graph n.0 o.0).graph; answer = Ok (subport# a n.1, subport# b o.1) })) c)
 
     pub both_linked_lem : {o : ℕ × ℕ} (l : lower.PortsLinked) → s.end ≡ Some o → same_side d e ≡ false → l ≡ link_ports s.graph.graph n.0 o.0 →
         ◌≡◌ {A = PortsLinked} (record { graph = with_graph s.graph l.graph; answer = Ok (subport# a n.1, subport# b o.1) })
@@ -120,6 +96,3 @@ back_is (visible n d) = refl
 
 pub seen_told : (v : Port) {s w : SeenPort} → s ≡ seen_as v → s ≡ w → v ≡ seen_back w
 seen_told v e t = back_is v ∙ ap seen_back (sym e ∙ t)
-
-pub on_block : {m : MultiPortGraph} {p : ℕ} {d : Direction} → MultiWf m → (s : SeenPort) (n : NodeIndex) → s ≡ seen_as (seen m p) → s ≡ seen_port.Visible n d → OnBlock m p d
-on_block {m} {p} {d} w s n e t = record { wf = w; node = n.0; is = seen_told (seen m p) e t }

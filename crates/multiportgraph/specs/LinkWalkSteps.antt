@@ -20,7 +20,7 @@ use Rattle.multiportgraph.specs.CodeForms.{block_found}
 use Rattle.multiportgraph.specs.WellFormed.{MultiWf}
 use Rattle.multi_tables.specs.TableReads.{owner_in, seen_in, wire_in}
 use Rattle.multiportgraph.specs.TableReadLaws.{seen_read}
-use Rattle.multiportgraph.specs.Wires.{is_block, side_links}
+use Rattle.multiportgraph.specs.Wires.{is_block, side_links, held_at}
 use Rattle.multiportgraph.specs.Walks.{both_seen, between, by_sides, port_links_seen, port_links, links_left, step_front, step_back, link_beyond, node_links, step_links, is_own_output, not_ignored, neighbour_links, neighbours_item, step_neighbours, connections, connections_item, links_item, step_connections}
 use Rattle.port_tables.specs.Listing.{filter_same}
 use Rattle.multiportgraph.specs.ScanLaws.{range_append, range_between, flat_map_append, block_not_hidden}
@@ -41,6 +41,7 @@ use Rattle.multi_tables.specs.declared.scans.LinkFilter.{LinkFilter}
 use Rattle.multi_tables.specs.declared.scans.LinkFilter.TheVariants as filters
 use Rattle.multi_tables.specs.declared.answers.Refusal.{Refusal}
 use Rattle.multi_tables.specs.declared.answers.PortPlace.{PortPlace}
+use Rattle.multi_tables.specs.declared.scans.Held.{Held}
 
 -- A block's links that a cursor has left.
 
@@ -102,30 +103,17 @@ plus_one p = omega arith
 -- Links of a block.
 
 module _ (m : MultiPortGraph) (c : NodeLinks) (r : Option SubportLink)
-    (e : r ≡ first_found (block_left m c.node.0 c.sides (filters.Skip c.skip_from c.skip_to) c.held c.offset)) where
-  pub links_item_lem : (w : SubportLink) → r ≡ Some w
-      → Some (
-        w,
-        record {
-          node = c.node;
-          sides = c.sides;
-          skip_from = c.skip_from;
-          skip_to = c.skip_to;
-          held = w.from.port.0 + 1;
-          offset = w.from.subport_offset;
-        },
-      )
-      ≡ step_links m c
+    (e : r ≡ first_found (block_left m c.node.0 c.sides (filters.Skip c.skip) c.held.port c.held.offset)) where
+  pub links_item_lem : (w : SubportLink) (k : Held) → r ≡ Some w → k ≡ held_at w.from
+      → Some (w, record { node = c.node; sides = c.sides; skip = c.skip; held = k }) ≡ step_links m c
   unfolding step_links node_links block_left
-  links_item_lem w h =
-      ap (λ (x : ℕ).
-      Some (w, record { node = c.node; sides = c.sides; skip_from = c.skip_from; skip_to = c.skip_to; held = x; offset = w.from.subport_offset }))
-      (plus_one w.from.port.0)
-      ∙ first_item None (links_item c) (both_seen m c.node.0 c.held) _ r w e h
+  links_item_lem w k h g =
+      ap (λ (x : Held). Some (w, record { node = c.node; sides = c.sides; skip = c.skip; held = x })) g
+      ∙ first_item None (links_item c) (both_seen m c.node.0 c.held.port) _ r w e h
 
   pub links_none : r ≡ None → None ≡ step_links m c
   unfolding step_links node_links block_left
-  links_none h = first_end None (links_item c) (both_seen m c.node.0 c.held) _ r e h
+  links_none h = first_end None (links_item c) (both_seen m c.node.0 c.held.port) _ r e h
 
 -- Neighbours.
 
@@ -140,7 +128,7 @@ own_by m n (visible k d) = go (eqb k n.0) d
     go false d = refl
 
 module _ (m : MultiPortGraph) (w : MultiWf m) (c : Neighbours) (f : LinkFilter) (r : Option SubportLink) (ef : f ≡ self_filter c.node c.ignore_self)
-    (e : r ≡ first_found (block_left m c.node.0 c.sides f c.held c.offset)) where
+    (e : r ≡ first_found (block_left m c.node.0 c.sides f c.held.port c.held.offset)) where
   passed_same : (b : Bool) (l : List SubportLink) → filter (λ v. passes_in m.graph.port_meta m.copy_node (self_filter c.node b) v.to.port.0) l ≡ filter (not_ignored m c.node.0 b) l
   passed_same true l =
       filter_same (λ v. not_own_output c.node.0 (seen_as (seen_in m.graph.port_meta m.copy_node v.to.port.0))) (not_ignored m c.node.0 true) l
@@ -148,38 +136,24 @@ module _ (m : MultiPortGraph) (w : MultiWf m) (c : Neighbours) (f : LinkFilter) 
       ∙ ap (λ (s : Port). cond (is_own_output m c.node.0 s) false true) (seen_read w.fine v.to.port.0))
   passed_same false l = filter_same (λ v. true) (not_ignored m c.node.0 false) l (λ v i. refl)
 
-  listed : r ≡ first_found (cond (both_seen m c.node.0 c.held) (filter (link_beyond c.held c.offset) (neighbour_links m c.node.0 c.sides c.ignore_self)) [])
+  listed : r ≡ first_found (cond (both_seen m c.node.0 c.held.port) (filter (link_beyond c.held.port c.held.offset) (neighbour_links m c.node.0 c.sides c.ignore_self)) [])
   unfolding block_left neighbour_links
   listed =
       e
-      ∙ ap (λ (x : LinkFilter). first_found (block_left m c.node.0 c.sides x c.held c.offset)) ef
-      ∙ ap (λ (l : List SubportLink). first_found (cond (both_seen m c.node.0 c.held) (filter (link_beyond c.held c.offset) l) []))
+      ∙ ap (λ (x : LinkFilter). first_found (block_left m c.node.0 c.sides x c.held.port c.held.offset)) ef
+      ∙ ap (λ (l : List SubportLink). first_found (cond (both_seen m c.node.0 c.held.port) (filter (link_beyond c.held.port c.held.offset) l) []))
       (passed_same c.ignore_self (by_sides (λ d. side_links m d c.node.0) c.sides))
 
-  pub neighbours_item_lem : (v : SubportLink) (k : ℕ) → r ≡ Some v → k ≡ owner_in m.graph.port_meta v.to.port.0
-      → Some (
-        node# k,
-        record {
-          node = c.node;
-          sides = c.sides;
-          ignore_self = c.ignore_self;
-          held = v.from.port.0 + 1;
-          offset = v.from.subport_offset;
-        },
-      )
-      ≡ step_neighbours m c
+  pub neighbours_item_lem : (v : SubportLink) (k : ℕ) (x : Held) → r ≡ Some v → k ≡ owner_in m.graph.port_meta v.to.port.0 → x ≡ held_at v.from
+      → Some (node# k, record { node = c.node; sides = c.sides; ignore_self = c.ignore_self; held = x }) ≡ step_neighbours m c
   unfolding step_neighbours owner_in owner_of
-  neighbours_item_lem v k h g =
-      ap (λ (x : ℕ).
-      Some (node# x, record { node = c.node; sides = c.sides; ignore_self = c.ignore_self; held = v.from.port.0 + 1; offset = v.from.subport_offset })) g
-      ∙ ap (λ (x : ℕ).
-      Some (node# (owner_of m.graph v.to.port.0), record { node = c.node; sides = c.sides; ignore_self = c.ignore_self; held = x; offset = v.from.subport_offset }))
-      (plus_one v.from.port.0)
-      ∙ first_item None (neighbours_item m c) (both_seen m c.node.0 c.held) _ r v listed h
+  neighbours_item_lem v k x h g i =
+      (λ j. Some (node# (g j), record { node = c.node; sides = c.sides; ignore_self = c.ignore_self; held = i j }))
+      ∙ first_item None (neighbours_item m c) (both_seen m c.node.0 c.held.port) _ r v listed h
 
   pub neighbours_none : r ≡ None → None ≡ step_neighbours m c
   unfolding step_neighbours
-  neighbours_none h = first_end None (neighbours_item m c) (both_seen m c.node.0 c.held) _ r listed h
+  neighbours_none h = first_end None (neighbours_item m c) (both_seen m c.node.0 c.held.port) _ r listed h
 
 -- Connections.
 
@@ -189,22 +163,22 @@ module _ (m : MultiPortGraph) (c : NodeConnections) where
   connections_gone e = rw e
 
   module _ (r : Option SubportLink) (t : is_block m c.target.0 ≡ true)
-      (e : r ≡ first_found (block_left m c.node.0 (One Outgoing) (filters.To c.target) c.held c.offset)) where
-    connected : r ≡ first_found (cond (both_seen m c.node.0 c.held) (filter (link_beyond c.held c.offset) (connections m c.node.0 c.target.0)) [])
+      (e : r ≡ first_found (block_left m c.node.0 (One Outgoing) (filters.To c.target) c.held.port c.held.offset)) where
+    connected : r ≡ first_found (cond (both_seen m c.node.0 c.held.port) (filter (link_beyond c.held.port c.held.offset) (connections m c.node.0 c.target.0)) [])
     unfolding block_left connections owner_in owner_of
     connected = e
 
-    pub connections_item_lem : (w : SubportLink) → r ≡ Some w
-        → Some (w, record { node = c.node; target = c.target; held = w.from.port.0 + 1; offset = w.from.subport_offset }) ≡ step_connections m c
+    pub connections_item_lem : (w : SubportLink) (k : Held) → r ≡ Some w → k ≡ held_at w.from
+        → Some (w, record { node = c.node; target = c.target; held = k }) ≡ step_connections m c
     unfolding step_connections
-    connections_item_lem w h =
+    connections_item_lem w k h g =
         rw t
-        (ap (λ (x : ℕ). Some (w, record { node = c.node; target = c.target; held = x; offset = w.from.subport_offset })) (plus_one w.from.port.0)
-        ∙ first_item None (connections_item c) (both_seen m c.node.0 c.held) _ r w connected h)
+        (ap (λ (x : Held). Some (w, record { node = c.node; target = c.target; held = x })) g
+        ∙ first_item None (connections_item c) (both_seen m c.node.0 c.held.port) _ r w connected h)
 
     pub connections_none : r ≡ None → None ≡ step_connections m c
     unfolding step_connections
-    connections_none h = rw t (first_end None (connections_item c) (both_seen m c.node.0 c.held) _ r connected h)
+    connections_none h = rw t (first_end None (connections_item c) (both_seen m c.node.0 c.held.port) _ r connected h)
 
 -- Links of a port.
 
@@ -262,9 +236,6 @@ module _ (marks : List Bool) (links owners : List ℕ) (flags : List Bool) (p : 
   pub left_first : (r : Option SubportLink) → r ≡ first_found (filter (λ (v : SubportLink). true) (links_in links owners flags p first f (end - f)))
       → r ≡ first_found (left_in marks links owners flags p d front back)
   left_first r e = e ∙ ap first_found (filter_every (links_in links owners flags p first f (end - f)) ∙ left_is)
-
-  pub left_last : (r : Option SubportLink) → r ≡ last_found (links_in links owners flags p first f (end - f)) → r ≡ last_found (left_in marks links owners flags p d front back)
-  left_last r e = e ∙ ap last_found left_is
 
 module _ (m : MultiPortGraph) (c : PortLinks) where
   left_unseen : (s : Port) → seen m c.port.0 ≡ s → port_links_seen m c.port.0 s ≡ [] → links_left m c ≡ []

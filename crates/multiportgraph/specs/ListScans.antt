@@ -17,6 +17,10 @@ abbrev pub of_block : (NodeMeta → List ℕ) → Bool → Option NodeMeta → L
 of_block f h None = []
 of_block f h (Some k) = cond h [] (f k)
 
+-- what is known of a block: nothing of a hidden node
+abbrev pub shown_meta : Bool → Option NodeMeta → Option NodeMeta
+shown_meta h k = cond h None k
+
 -- Ends.
 
 -- the four numbers of an end

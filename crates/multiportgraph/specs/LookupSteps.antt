@@ -1,5 +1,4 @@
 -- A node number as the lookups and the starts of walks read it, and what their steps amount to, over plain values.
-use Rattle.std.specs.Result.{is_ok}
 use Rattle.std.specs.Prelude.{◌≡◌, refl, Bool, true, false, cond, ℕ, Option, Some, None, Result, Ok, Err}
 use Rattle.std.proofs.Common.{sym, ◌∙◌, arith}
 use Rattle.std.proofs.Math.Path.{ap}
@@ -29,10 +28,6 @@ start_of (Err r) = refused r
 abbrev pub found_block : Result NodeMeta Refusal → Bool
 found_block (Ok k) = true
 found_block (Err r) = false
-
-pub found_is_ok : (f : Result NodeMeta Refusal) → is_ok f ≡ found_block f
-found_is_ok (Ok k) = refl
-found_is_ok (Err r) = refl
 
 start_by : (h : Bool) (k : Option NodeMeta) → start_of (block_in h k) ≡ cond (is_some k) (cond h (refused HiddenNode) started) (refused UnknownNode)
 start_by h None = refl

@@ -18,11 +18,10 @@ use Rattle.portgraph.specs.declared.portgraph.PortGraph.{PortGraph}
 use Rattle.portgraph.specs.declared.portgraph.PortsLinked as lower_linked
 use Rattle.portgraph.specs.declared.portgraph.PortUnlinked as lower_unlinked
 use Rattle.multiportgraph.specs.HiddenNodes.{prepare}
-use Rattle.multiportgraph.specs.Reading.{seen, side_of, is_split, end_at}
+use Rattle.multiportgraph.specs.Reading.{seen, is_split, end_at}
 use Rattle.multi_tables.specs.Forms.{Port, dead, hidden, visible, End, inner, lacking, subport#, good_offset}
 use Rattle.multiportgraph.specs.Calls.{cut_sub, cut_plain, cut_port, subport_link, link_sub_if, link_pair_if}
 use Rattle.port_tables.specs.Limits.{present}
-use Rattle.multiportgraph.specs.Lookups.{direction_seen, direction_of}
 use Rattle.multiportgraph.specs.Graph.{with_graph}
 use Rattle.multiportgraph.specs.WellFormed.{MultiWf}
 use Rattle.multiportgraph.specs.Presumed.{OnBlock}
@@ -102,21 +101,6 @@ module _ {m : MultiPortGraph} (w : MultiWf m) where
       ap (λ (x : Result (Option (SubportIndex × PortPlace)) Refusal). record { graph = with_graph m r.graph; answer = x })
       (k ∙ (plain_read_lem b.wf.fine p b.node d b.is s ∙ ap (λ (z : lower_unlinked.PortUnlinked). cut_plain m z.answer) (sym u)))
       ∙ cut_port_plain m p b.node d r r.answer b.is s u refl
-
-  -- A port by its side: one of a block, or refused.
-
-  pub on_side : (p : ℕ) {d : Direction} → direction_of m p ≡ Ok d → OnBlock m p d
-  unfolding direction_of
-  on_side p {d} e = go (seen m p) refl e
-    where
-      go : (s : Port) → seen m p ≡ s → direction_seen p s ≡ Ok d → OnBlock m p d
-      go dead t e = absurd (zero_is_not_one (cc))
-      go hidden t e = absurd (zero_is_not_one (cc))
-      go (visible n a) t e = let q : a ≡ d = cc in record { wf = w; node = n; is = t ∙ ap (visible n) q }
-
-  -- its side is the one that is seen
-  pub side_seen : {p : ℕ} {d : Direction} → OnBlock m p d → OnBlock m p (side_of (seen m p))
-  side_seen {p} {d} b = record { wf = w; node = b.node; is = b.is ∙ ap (visible b.node) (sym (ap side_of b.is)) }
 
   -- Two ends that are linked.
 

@@ -38,8 +38,8 @@ use Rattle.multiportgraph.specs.SplitLaws.{PreparedEnd}
 use Rattle.multiportgraph.specs.PrepareLaws.{prepare_law}
 use Rattle.multiportgraph.specs.PrepareSteps.{lower_wf, first_fits, lowest_same}
 use Rattle.multiportgraph.specs.LinkSteps.{is_ready, others_stay, both_linked_lem}
-use Rattle.multi_tables.specs.TableReads.{far_in, owner_in, seen_in, wire_in, plain_in, subports_in, first_in}
-use Rattle.multiportgraph.specs.TableReadLaws.{mark_told, seen_read, owner_read, copy_read, side_read, subports_read, first_read, end_read_off, wire_read, plain_read_lem, end_is_port}
+use Rattle.multi_tables.specs.TableReads.{far_in, owner_in, seen_in, wire_in, subports_in, first_in}
+use Rattle.multiportgraph.specs.TableReadLaws.{mark_told, seen_read, owner_read, copy_read, side_read, subports_read, first_read, end_read_off, wire_read, end_is_port}
 use Rattle.multiportgraph.specs.Named.{joined_at, cut_at, read_named, cut_named, link_by, prepared_by, linked_by}
 use Rattle.multi_tables.specs.NamedEnds.{end_or, end_seen, end_named, free_ends, second_or, second_seen, second_end, first_or, first_end, both_seen, link_named, read_in, reuse_at, reuse_in, end_need_in, second_ready, both_ready, first_ready, first_need, both_need, link_seen, link_need, pair_named, pair_seen}
 use Rattle.multiportgraph.specs.declared.multiportgraph.MultiPortGraph.{MultiPortGraph}
@@ -442,10 +442,6 @@ module _ {m : MultiPortGraph} (w : MultiWf m) where
       s ≡ read_in m.multiport p o → t ≡ read_in m.multiport q r → l ≡ link_by m s t v → l ≡ link_sub_if false m p o q r
   link_done p o q r is told a b h = h ∙ ((λ i. link_by m (a i) (b i) ((sym told ∙ is) i)) ∙ sym (sub_of_named w.fine p o q r))
 
-  pub link_refused_lem : (p o q r : ℕ) {e : Result (ℕ × ℕ) Refusal} (x : Refusal) → e ≡ link_named m.multiport m.graph.port_link m.graph.port_meta m.copy_node p o q r → e ≡ Err x →
-      link_refused m x ≡ link_sub_if false m p o q r
-  link_refused_lem p o q r x is told = link_done p o q r is told refl refl refl
-
   pub call_done : (a b : ℕ) {e v : Result LinkNeed Refusal} {l : PortsLinked} → e ≡ link_need m.multiport m.graph.port_link m.graph.port_meta m.copy_node a b → e ≡ v →
       l ≡ linked_by m a b v → l ≡ link_pair_if false present m a b
   call_done a b is told h = h ∙ (ap (linked_by m a b) (sym told ∙ is) ∙ sym (call_of_need w a b))
@@ -479,11 +475,6 @@ pub join_made : (m : MultiPortGraph) (x y : ℕ) {t : List ℕ} → t ≡ link_b
     with_graph m (with_links m.graph t (m.graph.link_count + 1)) ≡ joined_at m x y
 join_made m x y e = ap (λ (l : List ℕ). with_graph m (with_links m.graph l (m.graph.link_count + 1))) e
 
-pub ends_joined : (m : MultiPortGraph) (a b x o y r : ℕ) {t : List ℕ} → t ≡ link_both m.graph.port_link x y →
-    ◌≡◌ {A = PortsLinked} (record { graph = with_graph m (with_links m.graph t (m.graph.link_count + 1)); answer = Ok (subport# a o, subport# b r) })
-    (linked_by m a b (Ok (needs.Ends x o y r)))
-ends_joined m a b x o y r e = ap (λ (g : MultiPortGraph). record { graph = g; answer = Ok (subport# a o, subport# b r) }) (join_made m x y e)
-
 -- every wire at a port of a block that is not split is cut
 module _ {m : MultiPortGraph} {p : ℕ} {d : Direction} (b : OnBlock m p d) (s : is_split m p ≡ false) {v far n : ℕ} {t : List ℕ}
     (e : v ≡ p) (f : far ≡ at m.graph.port_link v) (g : t ≡ cut m.graph.port_link v) (h : n ≡ m.graph.link_count - link_count far) where
@@ -502,13 +493,6 @@ module _ {m : MultiPortGraph} {p : ℕ} {d : Direction} (b : OnBlock m p d) (s :
 
   pub port_cut_far : (far ≡ 0 → ⊥) → ◌≡◌ {A = PortUnlinked} (record { graph = with_graph m (with_links m.graph t n); answer = Ok (Some (subport# (far - 1) 0, standing_of m (far - 1))) }) (cut_port m p)
   port_cut_far z = port_cut_by (Ok (Some (port# (far - 1)))) (link_to m.graph p v far port_live.0 port_live.1 e f z)
-
-  -- by what was read before the cut
-  pub port_cut : {a : Result (Option (SubportIndex × PortPlace)) Refusal} → a ≡ plain_in m.graph.port_link m.graph.port_meta m.copy_node p →
-      ◌≡◌ {A = PortUnlinked} (record { graph = with_graph m (with_links m.graph t n); answer = a }) (cut_port m p)
-  port_cut k =
-      ap (λ (x : Result (Option (SubportIndex × PortPlace)) Refusal). record { graph = with_graph m (with_links m.graph t n); answer = x }) (k ∙ plain_read_lem b.wf.fine p b.node d b.is s)
-      ∙ port_cut_by (port_link m.graph p) refl
 
 -- how a port number is seen by the tables, and by the graph
 pub seen_as_lem : {m : MultiPortGraph} (w : MultiWf m) (p : ℕ) {s : SeenPort} → s ≡ seen_as (seen_in m.graph.port_meta m.copy_node p) → s ≡ seen_as (seen m p)

@@ -1,22 +1,19 @@
 -- What the code of needs, and of the test of room, takes from the definitions, case by case.
-use Rattle.std.specs.Prelude.{◌≡◌, Bool, cond, List, ℕ, ◌+◌, ◌-◌, ◌≤◌, ◌<◌, eqb, leb, Option, Some, None}
+use Rattle.std.specs.Prelude.{◌≡◌, Bool, cond, List, ℕ, ◌+◌, ◌-◌, ◌≤◌, ◌<◌, eqb, leb}
 use Rattle.std.proofs.Common.{sym, ◌∙◌, arith}
 use Rattle.std.proofs.Math.Path.{ap}
 use Rattle.std.proofs.Math.Bool.{true, false}
-use borrow.Author.Tests.{eq-eqb, ne_eqb, lt-ltb, le-ltb, le-leb, lt-leb}
-use Rattle.port_tables.specs.Limits.{node_slots, port_slots, node_ports}
-use Rattle.port_tables.specs.Entries.{ports_on, next_of, node#}
+use borrow.Author.Tests.{eq-eqb, ne_eqb, le-leb, lt-leb}
+use Rattle.port_tables.specs.Limits.{node_slots, port_slots}
+use Rattle.port_tables.specs.Entries.{next_of}
 use Rattle.port_tables.specs.Tables.{at, head_at}
 use Rattle.portgraph.specs.Calls.{rest_of, grown}
-use Rattle.port_tables.specs.ResizeLinks.{round_up}
 use Rattle.port_tables.specs.NodeWords.{slot_in, meta_in}
 use Rattle.port_tables.specs.declared.direction.Direction.{Direction}
-use Rattle.port_tables.specs.declared.index.NodeIndex.{NodeIndex}
-use Rattle.port_tables.specs.declared.node_entry.NodeMeta.{NodeMeta}
 use Rattle.port_tables.specs.declared.lent.Counts.{Counts}
-use Rattle.multi_tables.specs.Forms.{flag_at, lowest_unlinked}
+use Rattle.multi_tables.specs.Forms.{flag_at}
 use Rattle.multi_tables.specs.TableReads.{far_in, owner_in}
-use Rattle.multiportgraph.specs.Needs.{side_slot, copy_need_in, need_in, GrowsFew, takes_nothing, takes_of, next_free, nodes_left, head_left, ports_left, room_for}
+use Rattle.multiportgraph.specs.Needs.{copy_need_in, need_in, next_free, nodes_left, head_left, ports_left, room_for}
 use Rattle.multiportgraph.specs.declared.lent.Need.{Need}
 use Rattle.multiportgraph.specs.declared.lent.Need.TheVariants as need
 use Rattle.multiportgraph.specs.declared.lent.Takes.{Takes}
@@ -28,18 +25,6 @@ next_none_left nodes free e = rw (eq-eqb free 0 e)
 pub next_left : (nodes : List ℕ) (free : ℕ) → (free ≡ 0 → ⊥) → {r : ℕ} → r ≡ next_of (slot_in nodes (free - 1)).entry → r ≡ next_free nodes free
 unfolding rest_of
 next_left nodes free e h = rw (ne_eqb free 0 e) h
-
--- What is taken.
-
-pub grows_here : (u : Need) {c : NodeIndex} {k : NodeMeta} → u ≡ need.Grow c k → GrowsFew u → k.incoming + k.outgoing ≤ node_ports
-grows_here u {c} {k} e f = rw e at f
-
-pub takes_inside : (u : Need) {c : NodeIndex} {k : NodeMeta} → u ≡ need.Grow c k → k.incoming + k.outgoing + 1 < k.capacity → takes_nothing ≡ takes_of u
-takes_inside u {c} {k} e l = rw (e, lt-ltb (k.incoming + k.outgoing + 1) k.capacity l)
-
-pub takes_anew : (u : Need) {c : NodeIndex} {k : NodeMeta} {ports size cap : ℕ} → u ≡ need.Grow c k → ports ≡ k.incoming + k.outgoing → size ≡ round_up (ports + 1) → cap ≡ k.capacity →
-    k.capacity ≤ k.incoming + k.outgoing + 1 → ◌≡◌ {A = Takes} (record { node = false; take = size; give = cap }) (takes_of u)
-takes_anew u {c} {k} e p s h l = rw (e, le-ltb (k.incoming + k.outgoing + 1) k.capacity l, s, p, h)
 
 -- Lengths.
 
@@ -77,21 +62,6 @@ module _ (nodes links heads : List ℕ) (counts : Counts) (first second : Takes)
   room_ports l h = rw (← e, le-leb n node_slots l, h)
 
 -- What an end needs.
-
-module _ (links : List ℕ) (d : Direction) (c : ℕ) {u : Option NodeMeta} where
-  pub copy_none : u ≡ None → need.Split ≡ copy_need_in links d c u
-  copy_none t = rw t
-
-  module _ {k : NodeMeta} (t : u ≡ Some k) {first count : ℕ} (e : first ≡ side_slot k d) (f : count ≡ ports_on k d) where
-    pub copy_outside : leb (first + count) port_slots ≡ false → need.Grow (node# c) k ≡ copy_need_in links d c u
-    copy_outside h = rw (t, ← e, ← f, h)
-
-    module _ (h : leb (first + count) port_slots ≡ true) {offset : ℕ} (g : offset ≡ lowest_unlinked links first 0 count) where
-      pub copy_ready : offset < count → need.Ready (first + offset) offset ≡ copy_need_in links d c u
-      copy_ready l = rw (t, ← e, ← f, h, ← g, lt-ltb offset count l)
-
-      pub copy_grow : count ≤ offset → need.Grow (node# c) k ≡ copy_need_in links d c u
-      copy_grow l = rw (t, ← e, ← f, h, ← g, le-ltb offset count l)
 
 module _ (nodes links owners : List ℕ) (marks : List Bool) (p : ℕ) (d : Direction) {w : ℕ} (e : w ≡ p) {b : Bool} (f : b ≡ flag_at marks port_slots w) where
   flag_told : (z : Bool) → b ≡ z → flag_at marks port_slots p ≡ z

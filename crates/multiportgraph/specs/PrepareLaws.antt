@@ -317,7 +317,3 @@ module _ {m : MultiPortGraph} {M : Model} (f : Fine m M) where
       let sx' : Seen m' r.0 x = (subst (λ (s : Slots). x.pos < count_of s x.side) (sym same) sx.0, b.0) in
       let slot : slot_of r.0.node x ≡ slot_of M.node x = ap (λ (s : Slots). first_of s + (side_start s x.side + x.pos)) same in
       ap (λ (p : ℕ). prepare m' p x.side) (sym slot) ∙ found_again r.1 sx'
-
-  -- none is prepared only where a table would pass its limit
-  pub prepare_full : (x : model.InnerPlace) → Seen m M x → prepare m (slot_of M.node x) x.side ≡ full → NoSpace m M x
-  prepare_full x sx e = subst (PreparedSays m M x) e (prepare_says f x sx)

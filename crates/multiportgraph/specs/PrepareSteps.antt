@@ -1,7 +1,7 @@
 -- Preparing an end: what the calls of the code give amounts to the definitions.
 use Rattle.std.proofs.Math.Path.{◌≡◌, refl}
-use Rattle.std.proofs.Common.{sym, ap, ◌∙◌, inl, inr}
-use Rattle.std.specs.Prelude.{Bool, cond, ◌⊎◌, eqb, Option, Some, None, Result, Ok, Err}
+use Rattle.std.proofs.Common.{sym, ap, ◌∙◌}
+use Rattle.std.specs.Prelude.{Bool, cond, eqb, Option, Some, None, Result, Ok, Err}
 use Rattle.std.proofs.Math.Bool.{true, false}
 use Prim.Native.Nat.{ℕ, zero, suc, ◌+◌, ◌-◌, ◌*◌, ◌≤◌, ◌<◌}
 use native.Mathlib.Omega.{arith}
@@ -109,13 +109,12 @@ module _ (m : MultiPortGraph) (p : ℕ) (d : Direction) {i o : ℕ} {r : NodeAdd
   added_is : r ≡ add_node m.graph (copy_incoming d) (copy_outgoing d)
   added_is = rw (e₃, e₁, e₂)
 
-  pub split_full : (tag : Result (NodeIndex × PortIndex) AddError → ℕ) → ((n : NodeIndex) (f : PortIndex) → tag (Ok (n, f)) ≡ 0) → (tag r.answer ≡ 1) ⊎ (tag r.answer ≡ 2) →
+  pub split_full : ((x : NodeIndex × PortIndex) → r.answer ≡ Ok x → ⊥) →
       ◌≡◌ {A = Prepared} (record { graph = m; end = None }) (prepared_as m (split m p d))
   unfolding split_under
-  split_full tag zeroth z = go r.answer z ∙ (λ j. prepared_as m (split_by m p d (added_is j).graph (added_is j).answer))
+  split_full none = go r.answer none ∙ (λ j. prepared_as m (split_by m p d (added_is j).graph (added_is j).answer))
     where
-      go : (a : Result (NodeIndex × PortIndex) AddError) → (tag a ≡ 1) ⊎ (tag a ≡ 2) → ◌≡◌ {A = Prepared} (record { graph = m; end = None }) (prepared_as m (split_by m p d r.graph a))
-      go (Ok (n, f)) (inl t) = let k = zeroth n f in absurd (omega arith)
-      go (Ok (n, f)) (inr t) = let k = zeroth n f in absurd (omega arith)
-      go (Err add_error.TooManyPorts) t = refl
-      go (Err add_error.NoRoom) t = refl
+      go : (a : Result (NodeIndex × PortIndex) AddError) → ((x : NodeIndex × PortIndex) → a ≡ Ok x → ⊥) → ◌≡◌ {A = Prepared} (record { graph = m; end = None }) (prepared_as m (split_by m p d r.graph a))
+      go (Ok x) n = absurd (n x refl)
+      go (Err add_error.TooManyPorts) n = refl
+      go (Err add_error.NoRoom) n = refl

@@ -1,13 +1,14 @@
 -- A node with other counts: what the lower resize makes of the model, that the marks move with the ports, and that a hidden node
 -- which grows keeps its port, its subports and every wire.
-use Rattle.std.specs.Prelude.{◌≡◌, Bool, cond, ◌⊎◌, ℕ, ◌+◌, ◌-◌, ◌*◌, ◌≤◌, ◌<◌, eqb, leb, ltb, length, Result, Ok, Err}
+use Rattle.std.proofs.lemmas.Bool.{cases_eq}
+use Rattle.std.specs.Prelude.{◌≡◌, Bool, cond, ℕ, ◌+◌, ◌-◌, ◌*◌, ◌≤◌, ◌<◌, eqb, leb, ltb, length, Result, Ok, Err}
 use Rattle.std.proofs.Math.Path.{refl, sym, ap, subst}
 use Rattle.std.proofs.Common.{◌∙◌, inl, inr, ⊎_elim, ltb-true, ltb-false, leb-true, leb-false, eqb-true, eq-eqb}
 use Rattle.std.proofs.Math.Bool.{true, false}
 use mathlib.Core.List.{List}
 use native.Mathlib.Omega.{arith}
 use Rattle.std.proofs.Math.ListN.{get_or}
-use Rattle.std.proofs.lemmas.Bool.{eqb-false, lt-leb}
+use Rattle.std.proofs.lemmas.Bool.{lt-leb}
 use Rattle.port_tables.specs.Limits.{node_slots, port_slots, node_ports}
 use Rattle.port_tables.specs.Entries.{reversed, ports_on, new_count, meta_of}
 use Rattle.portgraph.specs.Lookups.{num_ports}
@@ -221,13 +222,6 @@ place_among k s h = go (ltb s (k.first_port.0 + k.incoming)) refl
         let p = h.1 in
         record { side = Outgoing; pos = s - (k.first_port.0 + k.incoming); below = omega arith; slot = omega arith }
 
-pub number_cases : (a b : ℕ) → (a ≡ b) ⊎ (a ≡ b → ⊥)
-number_cases a b = go (eqb a b) refl
-  where
-    go : (t : Bool) → eqb a b ≡ t → (a ≡ b) ⊎ (a ≡ b → ⊥)
-    go true e = inl (eqb-true a b e)
-    go false e = inr (eqb-false a b e)
-
 -- a place whose slot is marked, before and after
 pub record WasMarked (m : MultiPortGraph) (M M' : Model) (s : ℕ) : Type 0 where
   pub place : model.InnerPlace
@@ -337,7 +331,7 @@ module _ {m : MultiPortGraph} {M : Model} (f : Fine m M) {g' : PortGraph} {M' : 
 
   -- a port that is there before and after keeps its mark, wherever it moves
   pub recount_marks : (x : model.InnerPlace) → Valid M.node x → Valid M'.node x → is_split (recounted m n g') (slot_of M'.node x) ≡ is_split m (slot_of M.node x)
-  recount_marks x v u = ⊎_elim itself other (number_cases x.node n)
+  recount_marks x v u = ⊎_elim itself other (cases_eq x.node n)
     where
       itself : x.node ≡ n → is_split (recounted m n g') (slot_of M'.node x) ≡ is_split m (slot_of M.node x)
       itself h =
@@ -480,7 +474,7 @@ module _ {m : MultiPortGraph} {M : Model} {m' : MultiPortGraph} {M' : Model} (f 
 abbrev pub counted : MultiPortGraph → ℕ → PortGraph → ℕ → MultiPortGraph
 counted m c g subs = with_subports (recounted m c g) subs
 
-reversed_twice : (d e : Direction) → d ≡ reversed e → reversed d ≡ e
+pub reversed_twice : (d e : Direction) → d ≡ reversed e → reversed d ≡ e
 reversed_twice Incoming Incoming p = absurd (zero_is_not_one (cc))
 reversed_twice Incoming Outgoing p = refl
 reversed_twice Outgoing Incoming p = refl
@@ -527,7 +521,7 @@ module _ {m : MultiPortGraph} {M : Model} (f : Fine m M) (x : model.InnerPlace) 
       ⊎_elim
       (λ e. let p = count_after f r y e in let l = linked_below y z j e in omega arith)
       (λ e. let p = other_count f r y.node y.side e in let v = f.good.join_valid y z j in omega arith)
-      (number_cases y.node h.copy)
+      (cases_eq y.node h.copy)
 
   linked_stays : (y z : model.InnerPlace) → M.join y ≡ to z → beyond h.copy i o y ≡ false
   linked_stays y z j = below_stays h.copy i o y (λ e.
@@ -573,7 +567,7 @@ module _ {m : MultiPortGraph} {M : Model} (f : Fine m M) (x : model.InnerPlace) 
   shape k e = ⊎_elim
       (λ q. subst (Shape m M') (sym q) shape_here)
       (λ q. let c = f.copy k e in record { meta = c.meta; here = r.others k q ∙ c.here; single = c.single; several = c.several })
-      (number_cases k h.copy)
+      (cases_eq k h.copy)
 
   recount_sides : (k : ℕ) → is_hidden m k ≡ true → copy_side (counted m h.copy g' subs) k ≡ copy_side m k
   recount_sides k e =
@@ -692,7 +686,7 @@ module _ {m : MultiPortGraph} {M : Model} (f : Fine m M) (x : model.InnerPlace) 
   valid_kept y v = ⊎_elim
       (λ e. let p = count_before f r y e in let q = count_after f r y e in let l = side_grows y.side in omega arith)
       (λ e. let p = other_count f r y.node y.side e in omega arith)
-      (number_cases y.node h.copy)
+      (cases_eq y.node h.copy)
 
   two_left : 2 ≤ ports_on b x.side
   two_left = let w : 2 ≤ ports_on a x.side = subst (λ (s : Slots). 2 ≤ count_of s x.side) r.here h.several in omega arith

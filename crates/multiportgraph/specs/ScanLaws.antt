@@ -583,36 +583,6 @@ module _ (m : MultiPortGraph) (p n : ℕ) (d : Direction) (s : seen m p ≡ visi
   unfolding port_links subports_of_port flat_map
   links_of_plain e = rw (s, e) (append-nil (wire_of m d (subport# p 0)))
 
-  -- under a test of the offset
-  pub split_under : (t : ℕ → Bool) → is_split m p ≡ true →
-      filter (λ (v : SubportLink). t v.from.subport_offset) (port_links m p) ≡ flat_map (λ i. wire_of m d (subport# p i)) (filter t (range 0 (subports m p d)))
-  split_under t e =
-      ap (filter (λ (v : SubportLink). t v.from.subport_offset)) (links_of_split e)
-      ∙ flat_map_under (λ i. wire_of m d (subport# p i)) (λ (v : SubportLink). t v.from.subport_offset) t
-      (λ i v h. ap (λ (a : SubportIndex). t a.subport_offset) (wire_stands m d (subport# p i) v h)) (range 0 (subports m p d))
-
-  pub plain_under : (t : ℕ → Bool) → is_split m p ≡ false →
-      filter (λ (v : SubportLink). t v.from.subport_offset) (port_links m p) ≡ cond (t 0) (wire_of m d (subport# p 0)) []
-  plain_under t e = ap (filter (λ (v : SubportLink). t v.from.subport_offset)) (links_of_plain e) ∙ go (t 0) refl
-    where
-      go : (b : Bool) → t 0 ≡ b → filter (λ (v : SubportLink). t v.from.subport_offset) (wire_of m d (subport# p 0)) ≡ cond b (wire_of m d (subport# p 0)) []
-      go true h =
-          filter_all (λ (v : SubportLink). t v.from.subport_offset) (wire_of m d (subport# p 0))
-          (λ v i. ap (λ (a : SubportIndex). t a.subport_offset) (wire_stands m d (subport# p 0) v i) ∙ h)
-      go false h =
-          filter_none (λ (v : SubportLink). t v.from.subport_offset) (wire_of m d (subport# p 0))
-          (λ v i. ap (λ (a : SubportIndex). t a.subport_offset) (wire_stands m d (subport# p 0) v i) ∙ h)
-
-  -- beyond an offset
-  pub split_rest : (o : ℕ) → is_split m p ≡ true →
-      filter (link_past o) (port_links m p) ≡ flat_map (λ i. wire_of m d (subport# p i)) (range (suc o) (subports m p d - suc o))
-  split_rest o e =
-      split_under (ltb o) e
-      ∙ ap (flat_map (λ i. wire_of m d (subport# p i))) (offsets_past o (subports m p d))
-
-  pub plain_rest : (o : ℕ) → is_split m p ≡ false → filter (link_past o) (port_links m p) ≡ []
-  plain_rest o e = plain_under (ltb o) e ∙ rw (le-ltb o 0 (omega arith))
-
   pub split_subports_rest : (o : ℕ) → is_split m p ≡ true → filter (subport_past o) (subports_at m p) ≡ map (subport# p) (range (suc o) (subports m p d - suc o))
   split_subports_rest o e =
       ap (filter (subport_past o)) (subports_of_split e)
@@ -621,10 +591,3 @@ module _ (m : MultiPortGraph) (p n : ℕ) (d : Direction) (s : seen m p ≡ visi
   pub plain_subports_rest : (o : ℕ) → is_split m p ≡ false → filter (subport_past o) (subports_at m p) ≡ []
   unfolding filter
   plain_subports_rest o e = ap (filter (subport_past o)) (subports_of_plain e) ∙ rw (le-ltb o 0 (omega arith))
-
-  -- strictly between the offsets given from the front and from the back
-  pub split_left : (front back : ℕ) → is_split m p ≡ true →
-      filter (λ (v : SubportLink). between front back v.from.subport_offset) (port_links m p) ≡ flat_map (λ i. wire_of m d (subport# p i)) (range front (end_before back (subports m p d) - front))
-  split_left front back e =
-      split_under (between front back) e
-      ∙ ap (flat_map (λ i. wire_of m d (subport# p i))) (range_between front back (subports m p d))

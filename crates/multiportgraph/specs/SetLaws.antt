@@ -1,5 +1,7 @@
 -- Other counts for a block: the lower resize leaves the hidden nodes of dropped ports hanging on nothing (`Loose`), and they go
 -- one after the other. Every wire at a dropped position goes, all others stay.
+use Rattle.multiportgraph.specs.LinkCutLaws.{nowhere_not_to}
+use Rattle.std.proofs.lemmas.Bool.{cases_eq}
 use Rattle.std.specs.Prelude.{◌≡◌, Bool, ◌||◌, List, [], ◌∷◌, ◌++◌, ◌⊎◌, leb, set, length, Option, Some, None, Ok, Err, Result}
 use Rattle.std.proofs.Math.Path.{refl, sym, ap, subst}
 use Rattle.std.proofs.Common.{◌∙◌, inl, inr, leb-true, leb-false, le-leb, eq-eqb, ne_eqb}
@@ -35,7 +37,7 @@ use Rattle.multiportgraph.specs.Calls.{set_as, set_counts}
 use Rattle.multiportgraph.specs.WellFormed.{inner#, copy_place, Fine, Marked, copy_port, main_port_lem, BlockIs, Seen, outer, IsEnd, Wiring, subports_of_slot}
 use Rattle.multiportgraph.specs.Ends.{Hangs, hangs, one_copy, split_has_copy, copy_valid, main_seen, outer_of_subport, outer_of_block}
 use Rattle.multiportgraph.specs.HiddenStays.{copy_side_is, true_not_false}
-use Rattle.multiportgraph.specs.RecountLaws.{Recount, SomeRecount, set_recounts, below_stays, stays_below, count_new, slot_on_side, PlaceAt, place_among, number_cases, WasMarked, Shape, recount_marks, marked_was, marks_long_lem, other_count, count_after, both_sides}
+use Rattle.multiportgraph.specs.RecountLaws.{Recount, SomeRecount, set_recounts, below_stays, stays_below, count_new, slot_on_side, PlaceAt, place_among, WasMarked, Shape, recount_marks, marked_was, marks_long_lem, other_count, count_after, both_sides}
 use Rattle.multiportgraph.specs.declared.multiportgraph.MultiPortGraph.{MultiPortGraph}
 use Rattle.multiportgraph.specs.declared.multiportgraph.PortsSet.{PortsSet}
 use Rattle.multi_tables.specs.declared.answers.Refusal.{Refusal}
@@ -93,7 +95,7 @@ in_copies (suc k) m p c h = go (is_split m p) refl (in_copies k m (suc p) c) h
 copies_in_lem : (k : ℕ) (m : MultiPortGraph) (p s : ℕ) → p ≤ s → s < p + k → is_split m s ≡ true → Member (copy_node m s) (copies_in m p k)
 unfolding copies_in
 copies_in_lem zero m p s l u e = absurd (omega arith)
-copies_in_lem (suc k) m p s l u e = ⊎_elim now (λ q. later (is_split m p) (copies_in_lem k m (suc p) s (omega arith) (omega arith) e)) (number_cases s p)
+copies_in_lem (suc k) m p s l u e = ⊎_elim now (λ q. later (is_split m p) (copies_in_lem k m (suc p) s (omega arith) (omega arith) e)) (cases_eq s p)
   where
     now : s ≡ p → Member (copy_node m s) (cond (is_split m p) (copy_node m p ∷ copies_in m (suc p) k) (copies_in m (suc p) k))
     now q =
@@ -290,9 +292,6 @@ copy_is_there {m} {M} l k h =
     let t = l.shape k h in
     let e : count_of (M.node k) (copy_side m k) ≡ 1 = ap (λ (s : Slots). count_of s (copy_side m k)) t.here ∙ t.single in
     omega arith
-
-nowhere_not_to : {w : Far} {x : model.InnerPlace} → w ≡ nowhere → w ≡ to x → ⊥
-nowhere_not_to p q = zero_is_not_one (cc)
 
 -- A loose hidden node goes.
 module _ {m : MultiPortGraph} {M : Model} (c : ℕ) (cs : List ℕ) (l : Loose m M (c ∷ cs)) where
@@ -519,7 +518,7 @@ module _ {m : MultiPortGraph} {M : Model} {m' : MultiPortGraph} {M' : Model} {n 
       let h = s.0 e in
       omega arith)
       (λ e. let p : count_of (M'.node x.node) x.side ≡ count_of (M.node x.node) x.side = ap (λ (k : Slots). count_of k x.side) (t.nodes x.node e s.1) in omega arith)
-      (number_cases x.node n)
+      (cases_eq x.node n)
 
   -- in the end what has a port stays
   valid_stays : Tracks m M m' M' n i o b all [] → (x : model.InnerPlace) → Valid M'.node x → Stays n i o all x
@@ -546,7 +545,7 @@ module _ {m : MultiPortGraph} {M : Model} {m' : MultiPortGraph} {M' : Model} {n 
           hid = λ k h. lone_hidden c cs l k (not_gone k h) ∙ t.hid k h;
           went = λ k h. ⊎_elim
               (⊎_elim (λ e. inr (ap (lone c cs l).node e ∙ lone_gone c cs l)) (λ e. inl e))
-              (λ e. inr (⊎_elim (λ q. ap (lone c cs l).node q ∙ lone_gone c cs l) (λ q. lone_other c cs l k q ∙ e) (number_cases k c)))
+              (λ e. inr (⊎_elim (λ q. ap (lone c cs l).node q ∙ lone_gone c cs l) (λ q. lone_other c cs l k q ∙ e) (cases_eq k c)))
               (t.went k h);
           among = λ k h. t.among k (inr h);
           was = λ x y j. t.was x y (lone_joined c cs l x y j).0;
@@ -624,7 +623,7 @@ module _ {m : MultiPortGraph} {M : Model} (f : Fine m M) (n : ℕ) (a : NodeMeta
     re_valid x v s = ⊎_elim
         (λ e. let p = count_after f r x e in let q = count_new b i o x.side r.ins r.outs in let h = s e in omega arith)
         (λ e. let p = other_count f r x.node x.side e in omega arith)
-        (number_cases x.node n)
+        (cases_eq x.node n)
 
     valid_below : (x : model.InnerPlace) → Valid M'.node x → x.node ≡ n → x.pos < new_count i o x.side
     valid_below x v e = let p = count_after f r x e in let q = count_new b i o x.side r.ins r.outs in omega arith

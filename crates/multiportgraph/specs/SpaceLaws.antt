@@ -1,5 +1,6 @@
 -- Refusal 10 is given exactly where the works of a call would lengthen a table past its limit, and after an accepted call the
 -- room is that after its works.
+use Rattle.portgraph.specs.Chains.{chain_one}
 use Rattle.std.specs.Prelude.{◌≡◌, Bool, cond, not, ◌||◌, ◌↔◌, ℕ, zero, suc, ◌+◌, ◌*◌, ◌≤◌, ◌<◌, eqb, leb, ltb, get_or, set, Option, Some, None, Result, Ok, Err}
 use Rattle.std.proofs.Math.Path.{refl, sym, ap, subst, transport}
 use Rattle.std.proofs.Common.{◌∙◌, inl, inr, arith, ltb-true, leb-true, leb-false, eqb-true, lt-ltb, le-ltb, le-leb, ne_eqb}
@@ -10,14 +11,14 @@ use Rattle.std.proofs.lemmas.Bool.{lt-leb}
 use Rattle.port_tables.specs.Limits.{node_slots, port_slots, node_ports, present}
 use Rattle.port_tables.specs.Lists.{Member, Once}
 use Rattle.port_tables.specs.Entries.{fresh_slot, same_side, port#}
-use Rattle.port_tables.specs.Tables.{at, Within}
+use Rattle.port_tables.specs.Tables.{Within}
 use Rattle.portgraph.specs.Model as model
 use Rattle.portgraph.specs.Model.{Model, to, Valid, slot_of, first_of, side_start, count_of, Good, Holds, Slots, gone, live, Chain, NodeChain, number_of_first}
 use Rattle.portgraph.specs.Meaning.{upd, rest, growth, add_model, remove_model, link_model, unlink_model, resize_model, move_model, at_node}
 use Rattle.portgraph.specs.Calls.{add_node, remove_node, link_ports, unlink_port}
 use Rattle.portgraph.specs.Resize.{set_num_ports, set_by, refuse}
 use Rattle.port_tables.specs.ResizeLinks.{round_up, same_counts, fits_inside}
-use Rattle.portgraph.specs.ResizeSteps.{round_up_reaches, round_up_positive, round_up_fits}
+use Rattle.portgraph.specs.ResizeSteps.{round_up_reaches, round_up_positive, round_up_fits, fits_below}
 use Rattle.portgraph.specs.ResizeLaws.{plan_live, plan_where, set_law, set_too_many, set_moves_too_short, none_beyond}
 use Rattle.portgraph.specs.InsideHolds.{inside_holds}
 use Rattle.portgraph.specs.AnewHolds.{anew_holds}
@@ -159,21 +160,10 @@ same_node_chain nodes p q (x ∷ l) (y ∷ k) e c d =
     let t = same_node_chain nodes (suc x) (suc y) l k n c.1 d.1 in
     cc
 
-same_chain : (t : List ℕ) (h : ℕ) (l k : List ℕ) → Chain t h l → Chain t h k → l ≡ k
-same_chain t h [] [] c d = refl
-same_chain t h [] (y ∷ k) c d = absurd (let e = d.0 in omega arith)
-same_chain t h (x ∷ l) [] c d = absurd (let e = c.0 in omega arith)
-same_chain t h (x ∷ l) (y ∷ k) c d =
-    let a = c.0 in
-    let b = d.0 in
-    let s : x ≡ y = omega arith in
-    let r = same_chain t (at t x) l k c.1 (subst (λ (z : ℕ). Chain t (at t z) k) (sym s) d.1) in
-    cc
-
 pub room_of_graph : {g : PortGraph} {M N : Model} → Holds g M → Holds g N → room_of M ≡ room_of N
 room_of_graph {g} {M} {N} h k =
     let a : M.free_nodes ≡ N.free_nodes = same_node_chain g.node_meta 0 0 M.free_nodes N.free_nodes (sym h.node_head ∙ k.node_head) h.node_chain k.node_chain in
-    let b : (s : ℕ) → M.free_blocks s ≡ N.free_blocks s = λ s. same_chain g.port_link _ (M.free_blocks s) (N.free_blocks s) (h.block_chain s) (k.block_chain s) in
+    let b : (s : ℕ) → M.free_blocks s ≡ N.free_blocks s = λ s. chain_one g.port_link _ (M.free_blocks s) (N.free_blocks s) (h.block_chain s) (k.block_chain s) in
     let c : M.node_len ≡ N.node_len = sym h.node_len ∙ k.node_len in
     let d : M.port_len ≡ N.port_len = sym h.port_len ∙ k.port_len in
     λ i. record { free_nodes = a i; free_blocks = λ s. b s i; node_len = c i; port_len = d i }
@@ -366,15 +356,6 @@ SetSpace g M works (Err set_error.UnknownNode) = ⊥
 SetSpace g M works (Err set_error.MovesTooShort) = ⊥
 SetSpace g M works (Err set_error.NoRoom) = overflows (room_of M) works ≡ true
 
-inside_fits : (k : NodeMeta) (i o : ℕ) → fits_inside k i o ≡ true → i + o ≤ k.capacity
-unfolding fits_inside
-inside_fits k i o e = go (ltb 0 (i + o)) (ltb (i + o) k.capacity) refl e
-  where
-    go : (a b : Bool) → ltb (i + o) k.capacity ≡ b → cond a b false ≡ true → i + o ≤ k.capacity
-    go true true q e = let h : i + o < k.capacity = ltb-true _ _ q in omega arith
-    go true false q e = absurd (zero_is_not_one (cc))
-    go false b q e = absurd (zero_is_not_one (cc))
-
 pub set_space : {g : PortGraph} {M : Model} → Good M → Holds g M → (n : ℕ) (k : NodeMeta) → M.node n ≡ live k → (i o room : ℕ) → i + o ≤ node_ports → 3 * (k.incoming + k.outgoing) ≤ room
     → SetSpace (set_num_ports g n i o room).graph M (recount_works k i o) (set_num_ports g n i o room).answer
 unfolding recount_works after_works
@@ -395,7 +376,7 @@ set_space {g} {M} good holds n k here i o room few told =
         → SetSpace (set_by g n i o (plan_live M i o k a b c)).graph M (cond a [] (cond b [] (move_works k (i + o)))) (set_by g n i o (plan_live M i o k a b c)).answer
     go true b c q r = (fits good, record { model = M; good = good; holds = holds; is = refl })
     go false true c q r =
-        let fit = inside_fits k i o q in
+        let fit = fits_below k i o q in
         (fits good, record { model = resize_model M n k i o; good = good_resize good n k here i o fit; holds = inside_holds good holds n k here i o fit; is = refl })
     go false false true q r =
         let fit = round_up_reaches (i + o) in

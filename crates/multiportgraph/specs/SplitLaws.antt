@@ -1,5 +1,6 @@
 -- What preparing an end of a port does (`PreparedEnd`), and its first case: splitting a linked port. A hidden node with two
 -- subports comes, the port's link moves to offset 0, and offset 1 is free.
+use Rattle.std.proofs.lemmas.Bool.{cases_eq}
 use Rattle.std.specs.Prelude.{◌≡◌, Bool, ◌⊎◌, ℕ, suc, ◌+◌, ◌-◌, ◌≤◌, ◌<◌, leb, Ok}
 use Rattle.std.proofs.Math.Path.{refl, ap, subst, transport}
 use Rattle.std.proofs.Common.{sym, ◌∙◌, inl, inr, ⊎_elim, lt-length-set}
@@ -9,7 +10,7 @@ use native.Mathlib.Omega.{arith}
 use Rattle.std.proofs.Math.Dec.{eqb}
 use Rattle.std.proofs.Math.ListN.{length, get_or, set, length-set}
 use Rattle.std.proofs.Math.Seq.{get_or-set_same, get_or-set_other}
-use borrow.Author.Tests.{eqb-true, eqb-false, leb-true, leb-false}
+use borrow.Author.Tests.{eqb-true, leb-true, leb-false}
 use Rattle.port_tables.specs.Limits.{node_slots, port_slots, node_ports}
 use Rattle.port_tables.specs.Entries.{reversed, ports_on, node#, port#, meta_of}
 use Rattle.port_tables.specs.Tables.{at, cut, link_both, link_count}
@@ -39,7 +40,7 @@ use Rattle.multiportgraph.specs.Needs.{need_of}
 use Rattle.multiportgraph.specs.NeedStays.{Alike, alike_same, alike_linked, need_alike}
 use Rattle.multi_tables.specs.TableReads.{far_in, hang_on, copy_at, subports_at}
 use Rattle.multiportgraph.specs.WellFormed.{inner#, copy_place, Copy, Marked, copy_port, main_port_lem, Fine, Seen, lift, lift_far, outer, IsEnd, WireIn, SameBlocks, SameWires, subports_of_slot}
-use Rattle.multiportgraph.specs.Ends.{ends_join_ends, unsplit_no_copy, outer_of_subport, outer_of_block}
+use Rattle.multiportgraph.specs.Ends.{ends_join_ends, unsplit_no_copy, outer_of_subport, outer_of_block, not_reversed, side_cases}
 use Rattle.multiportgraph.specs.HiddenStays.{same_wire}
 use Rattle.multiportgraph.specs.declared.multiportgraph.MultiPortGraph.{MultiPortGraph}
 use Rattle.port_tables.specs.Places.{Place, Wire, flag}
@@ -74,23 +75,6 @@ pub record PreparedEnd (m : MultiPortGraph) (M : Model) (x : model.InnerPlace) (
   pub keeps : (v : model.InnerPlace) → IsEnd m M v → M.join v ≡ nowhere → (v.side ≡ x.side → ⊥) → KeptEnd m M m' M' v
   -- every other port needs what it needed
   pub others : (v : model.InnerPlace) → Seen m M v → (v ≡ x → ⊥) → need_of m' (slot_of M.node v) v.side ≡ need_of m (slot_of M.node v) v.side
-
-nat_cases : (a b : ℕ) → (a ≡ b) ⊎ (a ≡ b → ⊥)
-nat_cases a b = go (eqb a b) refl
-  where
-    go : (t : Bool) → eqb a b ≡ t → (a ≡ b) ⊎ (a ≡ b → ⊥)
-    go true e = inl (eqb-true a b e)
-    go false e = inr (eqb-false a b e)
-
-side_cases : (a b : Direction) → (a ≡ b) ⊎ (a ≡ reversed b)
-side_cases Incoming Incoming = inl refl
-side_cases Incoming Outgoing = inr refl
-side_cases Outgoing Incoming = inr refl
-side_cases Outgoing Outgoing = inl refl
-
-not_reversed : (a : Direction) → reversed a ≡ a → ⊥
-not_reversed Incoming e = zero_is_not_one (cc)
-not_reversed Outgoing e = zero_is_not_one (cc)
 
 -- Wires and their ends.
 
@@ -249,7 +233,7 @@ module _ {m : MultiPortGraph} {M : Model} {x y : model.InnerPlace} {m' : MultiPo
 
   split_more : (p : ℕ) → is_split m p ≡ true → is_split m' p ≡ true
   split_more p e = ⊎_elim (λ q. ap (is_split m') q ∙ s.port_marked) (λ n. ⊎_elim (λ q. ap (is_split m') q ∙ s.copy_marked) (λ k. s.marked_else p n k ∙ e)
-      (nat_cases p (slot_of M'.node copy#))) (nat_cases p (slot_of M.node x))
+      (cases_eq p (slot_of M'.node copy#))) (cases_eq p (slot_of M.node x))
 
   side_new : copy_side m' c ≡ reversed x.side
   side_new = copy_side_by m' s.good s.holds c s.k s.here ∙ rw (s.ins, s.outs) (copy_side_apart x.side (is_split m' (slot_of M'.node (inner# c Incoming 0))))
@@ -393,7 +377,7 @@ module _ {m : MultiPortGraph} {M : Model} {x y : model.InnerPlace} {m' : MultiPo
       }
 
   main_after : (n : ℕ) (z : model.InnerPlace) → is_hidden m' n ≡ true → M'.join (copy_place m' n) ≡ to z → is_split m' (slot_of M'.node z) ≡ true
-  main_after n z h j = ⊎_elim new old (nat_cases n c)
+  main_after n z h j = ⊎_elim new old (cases_eq n c)
     where
       new : n ≡ c → is_split m' (slot_of M'.node z) ≡ true
       new q =
@@ -428,20 +412,20 @@ module _ {m : MultiPortGraph} {M : Model} {x y : model.InnerPlace} {m' : MultiPo
         holds = s.holds;
         marks_long = s.marks_long;
         flags_long = s.flags_long;
-        copy = λ n h. ⊎_elim (λ q. subst (Copy m' M') (sym q) copy_after) (λ q. copy_other n q (hidden_before n q h)) (nat_cases n c);
+        copy = λ n h. ⊎_elim (λ q. subst (Copy m' M') (sym q) copy_after) (λ q. copy_other n q (hidden_before n q h)) (cases_eq n c);
         copy_marked = λ n h.
             ⊎_elim
             (λ q. ap (λ k. is_split m' (slot_of M'.node (copy_place m' k))) q
             ∙ (ap (λ d. is_split m' (slot_of M'.node (inner# c d 0))) side_new ∙ s.copy_marked))
             (λ q. ap (is_split m') (ap (slot_of M'.node) (copy_kept n (hidden_before n q h)) ∙ slot_same (copy_place m n) q)
             ∙ split_more _ (f.copy_marked n (hidden_before n q h)))
-            (nat_cases n c);
+            (cases_eq n c);
         main_marked = main_after;
         only_marked = λ p e.
             ⊎_elim (λ q. main_port_lem c x s.hidden_here (new_joined) (slot_same x (not_new x sx.0) ∙ sym q))
             (λ n. ⊎_elim (λ q. copy_port c s.hidden_here (ap (λ d. slot_of M'.node (inner# c d 0)) side_new ∙ sym q))
             (λ k. mark_kept p (f.only_marked p (sym (s.marked_else p n k) ∙ e)))
-            (nat_cases p (slot_of M'.node copy#))) (nat_cases p (slot_of M.node x));
+            (cases_eq p (slot_of M'.node copy#))) (cases_eq p (slot_of M.node x));
         copies =
             let t = total_one node_slots c (λ n. flag (is_hidden m n)) (λ n. flag (is_hidden m' n)) s.below (λ i l n. ap flag (sym (s.hidden_else i n))) in
             let a = ap flag was_plain in
@@ -470,7 +454,7 @@ module _ {m : MultiPortGraph} {M : Model} {x y : model.InnerPlace} {m' : MultiPo
       sub : z.side ≡ x.side → (z ≡ sub# 0) ⊎ (z ≡ sub# 1)
       sub d =
           let l : z.pos < 2 = subst (λ k. z.pos < k) (ap (λ w. count_of w x.side) s.here ∙ two_subports x.side s.k s.ins s.outs) (subst (λ e. z.pos < count_of (M'.node c) e) d count) in
-          ⊎_elim (λ h. inl (same_place_lem z (sub# 0) q d h)) (λ h. inr (same_place_lem z (sub# 1) q d (omega arith))) (nat_cases z.pos 0)
+          ⊎_elim (λ h. inl (same_place_lem z (sub# 0) q d h)) (λ h. inr (same_place_lem z (sub# 1) q d (omega arith))) (cases_eq z.pos 0)
 
       copied : z.side ≡ reversed x.side → z ≡ copy#
       copied d =
@@ -524,7 +508,7 @@ module _ {m : MultiPortGraph} {M : Model} {x y : model.InnerPlace} {m' : MultiPo
   wire_back : (w : Wire) → WireIn m' M' w → WireIn m M w
   wire_back w h =
       ⊎_elim (λ q. absurd (port_no_end (subst (IsEnd m' M') q h.end)))
-      (λ n. ⊎_elim far (λ k. ⊎_elim (λ q. new q (place_of_new h.x q h.end.valid)) (other n k) (nat_cases h.x.node c)) (place_cases h.x y))
+      (λ n. ⊎_elim far (λ k. ⊎_elim (λ q. new q (place_of_new h.x q h.end.valid)) (other n k) (cases_eq h.x.node c)) (place_cases h.x y))
       (place_cases h.x x)
     where
       far : h.x ≡ y → WireIn m M w
@@ -857,10 +841,6 @@ module _ {m : MultiPortGraph} {M : Model} (f : Fine m M) (x y : model.InnerPlace
   marks_after : m₄.multiport ≡ set (set m.multiport (slot_of M₁.node cp) true) (slot_of M.node x) true
   unfolding split_port
   marks_after = ap (λ t. set (set m.multiport t true) (slot_of M.node x) true) copy_slot
-
-  flags_after : m₄.copy_node ≡ set m.copy_node c# true
-  unfolding split_port
-  flags_after = refl
 
   c_below : c# < node_slots
   c_below =

@@ -1,10 +1,12 @@
 -- What the steps of the starts of walks amount to, over plain values.
+use Rattle.multi_tables.specs.declared.scans.Held.{Held}
 use Rattle.std.specs.Prelude.{◌≡◌, Bool, false, ℕ, length, List, Result, Ok, Err}
 use Rattle.std.proofs.Math.Path.{refl, ap}
 use Rattle.std.proofs.Common.{sym, ◌∙◌, true≢false}
 use Rattle.std.proofs.Math.Bool.{true, cond}
 use Rattle.std.proofs.lemmas.Bool.{false≢true}
-use Rattle.std.specs.Result.{is_ok}
+use Rattle.std.specs.Result.{is_ok, IsErrAnd}
+use Rattle.port_tables.specs.TableSteps.{passed_on, with_numbers}
 use Rattle.port_tables.specs.Limits.{node_slots}
 use Rattle.portgraph.specs.Lookups.{contains_node, port_at}
 use Rattle.port_tables.specs.declared.port_entry.PortEntry.{PortEntry}
@@ -23,6 +25,10 @@ use Rattle.multi_tables.specs.declared.answers.Refusal.{Refusal}
 use Rattle.multiportgraph.specs.Walks.{is_seen, Start, started, refused, start_at_node, start_between, start_seen, start_at_port}
 use Rattle.multiportgraph.specs.declared.multiportgraph.MultiPortGraph.{MultiPortGraph}
 use Rattle.multi_tables.specs.declared.answers.Refusal.TheVariants.{UnknownNode, HiddenNode, UnknownPort, HiddenPort}
+
+-- what is returned where a refusal is passed on, and its numbers
+pub passed_told : {T E : Type 0} (numbers : Result T E → List ℕ) {e : E} {x : Result T E} (r : Result T E) → IsErrAnd r (λ y. y ≡ e) → Err e ≡ x → (r ≡ x) × (numbers r ≡ numbers x)
+passed_told numbers r h k = with_numbers numbers (passed_on h ∙ k)
 
 seen_is_ok : (p : ℕ) (s : Port) → is_ok (block_or p s) ≡ is_seen s
 seen_is_ok p dead = refl
@@ -99,3 +105,7 @@ module _ (m : MultiPortGraph) where
         go true g eh eg z = absurd (true≢false z)
         go false true eh eg z = absurd (true≢false z)
         go false false eh eg z = start_between_lem n k true true false false ea eb eh eg
+
+-- what a cursor holds at the start
+pub held_first : {h : Held} → (h.port ≡ 0) × (h.offset ≡ 0) → h ≡ record { port = 0; offset = 0 }
+held_first e = λ i. record { port = e.0 i; offset = e.1 i }

@@ -1,12 +1,11 @@
 -- Steps of the walk over the subports of a block, over plain values.
 use Rattle.std.proofs.Math.Path.{◌≡◌, refl, sym, ap}
-use Rattle.std.proofs.Common.{◌∙◌, le-leb, ltb-true, ltb-false, leb-true, leb-false}
+use Rattle.std.proofs.Common.{◌∙◌, ltb-true, ltb-false, leb-true, leb-false}
 use Rattle.std.specs.Prelude.{Bool, false, leb, ltb, Option, Some, None, Ok}
 use Rattle.std.proofs.Math.Bool.{true}
 use mathlib.Core.List.{List, [], ◌∷◌, ◌++◌, map}
 use Prim.Native.Nat.{ℕ, zero, suc, ◌+◌, ◌-◌, ◌≤◌, ◌<◌, min}
 use native.Mathlib.Omega.{arith}
-use Rattle.std.proofs.lemmas.Bool.{lt-leb}
 use Rattle.port_tables.specs.Limits.{port_slots}
 use Rattle.port_tables.specs.Lists.{range, filter, on_first}
 use Rattle.portgraph.specs.Lookups.{meta_at}
@@ -14,6 +13,7 @@ use Rattle.port_tables.specs.Entries.{ports_from, ports_to}
 use Rattle.port_tables.specs.declared.direction.Direction.{Direction}
 use Rattle.port_tables.specs.declared.sides.Sides.{Sides}
 use Rattle.port_tables.specs.declared.node_entry.NodeMeta.{NodeMeta}
+use Rattle.multiportgraph.specs.Wires.{held_at}
 use Rattle.multiportgraph.specs.Reading.{is_hidden, is_split, seen, subports}
 use Rattle.multi_tables.specs.Forms.{Port, dead, hidden, visible, subport#}
 use Rattle.multiportgraph.specs.WellFormed.{MultiWf}
@@ -24,12 +24,13 @@ use Rattle.multiportgraph.specs.ScanLaws.{subports_seen, subports_at, subports_f
 use Rattle.multiportgraph.specs.LookupSteps.{block_at, meta_is}
 use Rattle.multi_tables.specs.Scans.{span_count}
 use Rattle.multiportgraph.specs.ScanReads.{count_split, count_plain}
-use Rattle.multiportgraph.specs.WalkScans.{held_in, first_subport, subport_port, port_subports_by, port_subports_in, subports_rest, subports_beyond}
+use Rattle.multiportgraph.specs.WalkScans.{held_in, first_subport, port_subports_by, port_subports_in, subports_rest, subports_beyond}
 use Rattle.multiportgraph.specs.WalkSteps.{both_found}
 use Rattle.multiportgraph.specs.declared.multiportgraph.MultiPortGraph.{MultiPortGraph}
 use Rattle.multi_tables.specs.declared.answers.SubportIndex.{SubportIndex}
 use Rattle.multiportgraph.specs.declared.iter.NodeSubports.{NodeSubports}
 use Rattle.multiportgraph.specs.CodeForms.{block_found}
+use Rattle.multi_tables.specs.declared.scans.Held.{Held}
 
 -- The first of two lists, one after the other.
 
@@ -42,11 +43,6 @@ first_later : (a b : List SubportIndex) → first_subport a ≡ None → first_s
 unfolding first_subport on_first
 first_later [] b e = refl
 first_later (x ∷ a) b e = let z : ◌≡◌ {A = ℕ} 0 1 = cc in absurd (omega arith)
-
--- a subport that was found stands at its port
-pub subport_below : (p k : ℕ) (r : Option SubportIndex) → subport_port p r ≡ p → p < k → 0 < k → subport_port 0 r < k
-subport_below p k (Some s) e h z = omega arith
-subport_below p k None e h z = z
 
 one_less : (o end : ℕ) → o < end → end - o ≡ suc (end - (o + 1))
 one_less o end h = omega arith
@@ -96,20 +92,6 @@ module _ (marks : List Bool) (links owners : List ℕ) (flags : List Bool) where
       pub subports_done : stop ≤ p → None ≡ first_subport (subports_rest marks links owners flags p o (stop - p))
       unfolding subports_rest first_subport on_first
       subports_done h = let a : stop - p ≡ 0 = omega arith in rw a
-
-  module _ (from end held o : ℕ) where
-    pub beyond_all : (place : ℕ) → place ≡ held → place ≤ from
-        → first_subport (subports_rest marks links owners flags from 0 (min end port_slots - from)) ≡ first_subport (subports_beyond marks links owners flags from end held o)
-    unfolding subports_beyond
-    beyond_all place e h = rw (le-leb held from (omega arith))
-
-    pub beyond_rest : (place w : ℕ) → place ≡ held → from < place → w ≡ o
-        → first_subport (subports_rest marks links owners flags (place - 1) (w + 1) (min end port_slots - (place - 1))) ≡ first_subport (subports_beyond marks links owners flags from end held o)
-    unfolding subports_beyond
-    beyond_rest place w e h f =
-        let a : o + 1 ≡ suc o = omega arith in
-        let g : from < held = omega arith in
-        rw (lt-leb held from g, e, f, a)
 
 -- What the tables tell is what the graph has.
 
@@ -254,33 +236,31 @@ module _ {B : Type 0} (end : B) (item : SubportIndex → B) where
 
 module _ (m : MultiPortGraph) (c : NodeSubports) where
   abbrev subports_item : SubportIndex → Option (SubportIndex × NodeSubports)
-  subports_item s = Some (s, record { node = c.node; sides = c.sides; held = suc s.port.0; offset = s.subport_offset })
+  subports_item s = Some (s, record { node = c.node; sides = c.sides; held = held_at s })
 
-  pub subports_gone : both_seen m c.node.0 c.held ≡ false → None ≡ step_subports m c
+  pub subports_gone : both_seen m c.node.0 c.held.port ≡ false → None ≡ step_subports m c
   unfolding step_subports
   subports_gone e = rw e
 
-  module _ (w : MultiWf m) (k : NodeMeta) (e : block_found m c.node.0 ≡ Ok k) (there : held_in m.graph.port_meta m.copy_node c.held ≡ true)
+  module _ (w : MultiWf m) (k : NodeMeta) (e : block_found m c.node.0 ≡ Ok k) (there : held_in m.graph.port_meta m.copy_node c.held.port ≡ true)
       (a b : ℕ) (r : Option SubportIndex) (ea : a ≡ ports_from k c.sides) (eb : b ≡ ports_to k c.sides)
-      (er : r ≡ first_subport (subports_beyond m.multiport m.graph.port_link m.graph.port_meta m.copy_node a b c.held c.offset)) where
-    listed : r ≡ first_subport (filter (subport_beyond c.held c.offset) (subports_of m c.node.0 c.sides))
+      (er : r ≡ first_subport (subports_beyond m.multiport m.graph.port_link m.graph.port_meta m.copy_node a b c.held.port c.held.offset)) where
+    listed : r ≡ first_subport (filter (subport_beyond c.held.port c.held.offset) (subports_of m c.node.0 c.sides))
     listed =
-        let read = subports_read m w c.node.0 k (block_not_hidden m c.node.0 (sym (block_at m c.node.0 (Ok k) e))) (meta_is m c.node.0 k e) c.sides c.held c.offset in
+        let read = subports_read m w c.node.0 k (block_not_hidden m c.node.0 (sym (block_at m c.node.0 (Ok k) e))) (meta_is m c.node.0 k e) c.sides c.held.port c.held.offset in
         er
-        ∙ ap (λ (x : ℕ). first_subport (subports_beyond m.multiport m.graph.port_link m.graph.port_meta m.copy_node x b c.held c.offset)) ea
-        ∙ ap (λ (x : ℕ). first_subport (subports_beyond m.multiport m.graph.port_link m.graph.port_meta m.copy_node (ports_from k c.sides) x c.held c.offset)) eb
+        ∙ ap (λ (x : ℕ). first_subport (subports_beyond m.multiport m.graph.port_link m.graph.port_meta m.copy_node x b c.held.port c.held.offset)) ea
+        ∙ ap (λ (x : ℕ). first_subport (subports_beyond m.multiport m.graph.port_link m.graph.port_meta m.copy_node (ports_from k c.sides) x c.held.port c.held.offset)) eb
         ∙ ap first_subport read
 
-    pub subports_item_lem : (s : SubportIndex) → r ≡ Some s
-        → Some (s, record { node = c.node; sides = c.sides; held = s.port.0 + 1; offset = s.subport_offset }) ≡ step_subports m c
+    pub subports_item_lem : (s : SubportIndex) (h : Held) → r ≡ Some s → h ≡ held_at s → Some (s, record { node = c.node; sides = c.sides; held = h }) ≡ step_subports m c
     unfolding step_subports
-    subports_item_lem s h =
-        let one : s.port.0 + 1 ≡ suc s.port.0 = omega arith in
-        rw (both_found m c.node.0 k c.held true w e there)
-        (ap (λ (x : ℕ). Some (s, record { node = c.node; sides = c.sides; held = x; offset = s.subport_offset })) one
-        ∙ first_item None subports_item _ r s listed h)
+    subports_item_lem s h f g =
+        rw (both_found m c.node.0 k c.held.port true w e there)
+        (ap (λ (x : Held). Some (s, record { node = c.node; sides = c.sides; held = x })) g
+        ∙ first_item None subports_item _ r s listed f)
 
     pub subports_none : r ≡ None → None ≡ step_subports m c
     unfolding step_subports
     subports_none h =
-        rw (both_found m c.node.0 k c.held true w e there) (first_end None subports_item _ r listed h)
+        rw (both_found m c.node.0 k c.held.port true w e there) (first_end None subports_item _ r listed h)

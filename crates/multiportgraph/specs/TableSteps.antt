@@ -1,7 +1,7 @@
 -- Steps of a split and of one more subport, made in the tables.
 use Rattle.std.proofs.Math.Path.{◌≡◌, refl, sym, ap, transport}
-use Rattle.std.proofs.Common.{◌∙◌, inl, inr, arith}
-use Rattle.std.specs.Prelude.{Bool, List, ◌⊎◌, ℕ, ◌+◌, ◌-◌, Some, None, Result, Ok, Err}
+use Rattle.std.proofs.Common.{◌∙◌}
+use Rattle.std.specs.Prelude.{Bool, List, ℕ, ◌+◌, ◌-◌, Some, None, Result, Ok, Err}
 use Rattle.std.proofs.Math.Bool.{true, false}
 use Rattle.std.proofs.Math.ListN.{set}
 use Rattle.port_tables.specs.Limits.{node_slots, port_slots}
@@ -179,21 +179,16 @@ module _ {m : MultiPortGraph} {p : ℕ} {d : Direction} {copy node count : ℕ} 
         let g = grown_counts s.port count s.count_is in
         f₄ ∙ (λ j. set_num_ports m.graph (s.node_is j) ((f₁ ∙ g.0) j) ((f₂ ∙ g.1) j) (f₃ j))
 
-    pub grow_full : (tag : Result ℕ SetError → ℕ) → ((e : ℕ) → tag (Ok e) ≡ 0) → (tag r.answer ≡ 1) ⊎ ((tag r.answer ≡ 2) ⊎ ((tag r.answer ≡ 3) ⊎ (tag r.answer ≡ 4))) →
-        ◌≡◌ {A = Prepared} (record { graph = m; end = None }) (prepared_as m (grow m (copy_node m p) d))
+    pub grow_full : ((e : ℕ) → r.answer ≡ Ok e → ⊥) → ◌≡◌ {A = Prepared} (record { graph = m; end = None }) (prepared_as m (grow m (copy_node m p) d))
     unfolding grow_under
-    grow_full tag zeroth z = go r.answer z ∙ (λ j. prepared_as m (grown_by m (copy_node m p) d (set_is j).graph (set_is j).answer))
+    grow_full none = go r.answer none ∙ (λ j. prepared_as m (grown_by m (copy_node m p) d (set_is j).graph (set_is j).answer))
       where
-        go : (x : Result ℕ SetError) → (tag x ≡ 1) ⊎ ((tag x ≡ 2) ⊎ ((tag x ≡ 3) ⊎ (tag x ≡ 4))) →
-            ◌≡◌ {A = Prepared} (record { graph = m; end = None }) (prepared_as m (grown_by m (copy_node m p) d r.graph x))
-        go (Ok e) (inl t) = let k = zeroth e in absurd (omega arith)
-        go (Ok e) (inr (inl t)) = let k = zeroth e in absurd (omega arith)
-        go (Ok e) (inr (inr (inl t))) = let k = zeroth e in absurd (omega arith)
-        go (Ok e) (inr (inr (inr t))) = let k = zeroth e in absurd (omega arith)
-        go (Err set_error.TooManyPorts) t = refl
-        go (Err set_error.UnknownNode) t = refl
-        go (Err set_error.MovesTooShort) t = refl
-        go (Err set_error.NoRoom) t = refl
+        go : (x : Result ℕ SetError) → ((e : ℕ) → x ≡ Ok e → ⊥) → ◌≡◌ {A = Prepared} (record { graph = m; end = None }) (prepared_as m (grown_by m (copy_node m p) d r.graph x))
+        go (Ok e) n = absurd (n e refl)
+        go (Err set_error.TooManyPorts) n = refl
+        go (Err set_error.UnknownNode) n = refl
+        go (Err set_error.MovesTooShort) n = refl
+        go (Err set_error.NoRoom) n = refl
 
     module _ {e : ℕ} (a : r.answer ≡ Ok e) where
       pub grow_told : GrowTables m p d (copy_node m p) count r.graph

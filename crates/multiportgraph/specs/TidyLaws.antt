@@ -1,5 +1,6 @@
 -- Tidying a port: what is left of its hidden node, that every wire and every block stays where it is, that tidying again changes
 -- nothing, and that nothing is taken for it.
+use Rattle.std.proofs.lemmas.Bool.{cases_eq}
 use Rattle.std.specs.Prelude.{◌≡◌, Bool, [], ◌∷◌, ◌⊎◌, eqb, ltb, Some, Result, Ok, Err}
 use Rattle.std.proofs.Math.Path.{refl, ap, subst, transport}
 use Rattle.std.proofs.Common.{sym, ◌∙◌, inl, inr, ⊎_elim}
@@ -22,7 +23,7 @@ use Rattle.portgraph.specs.ResizeLaws.{set_same, set_inside}
 use Rattle.portgraph.specs.PlaceLaws.{meta_of_node}
 use Rattle.portgraph.specs.InsideHolds.{inside_holds}
 use Rattle.portgraph.specs.GoodLaws.{good_resize}
-use Rattle.portgraph.specs.GoodSlots.{zero_is_not_one, same_place_lem}
+use Rattle.portgraph.specs.GoodSlots.{same_place_lem}
 use Rattle.port_tables.specs.declared.direction.Direction.{Direction}
 use Rattle.port_tables.specs.declared.direction.Direction.TheVariants.{Incoming, Outgoing}
 use Rattle.port_tables.specs.declared.node_entry.NodeMeta.{NodeMeta}
@@ -36,7 +37,7 @@ use Rattle.multiportgraph.specs.HiddenStays.{same_wire, true_not_false, end_kept
 use Rattle.multi_tables.specs.MarkLaws.{lay_same}
 use Rattle.multiportgraph.specs.LinkCutLaws.{Joined, join_ends, to_same, nowhere_not_to, touches_neither}
 use Rattle.multiportgraph.specs.CopyLaws.{port_at, CopyGone, copy_goes, copy_frame, copy_alike, hidden_other, end_elsewhere, unsplit_split}
-use Rattle.multiportgraph.specs.RecountLaws.{SomeRecount, set_recounts, number_cases, counted, copy_place_same, same_wires, recount_ends, recount_fine, recount_blocks}
+use Rattle.multiportgraph.specs.RecountLaws.{SomeRecount, set_recounts, counted, copy_place_same, same_wires, recount_ends, recount_fine, recount_blocks, reversed_twice, both_sides}
 use Rattle.multiportgraph.specs.declared.multiportgraph.MultiPortGraph.{MultiPortGraph}
 use Rattle.multiportgraph.specs.declared.multiportgraph.PortTidied.{PortTidied}
 use Rattle.port_tables.specs.Places.{Wire, touches, wire_of_sides}
@@ -82,7 +83,7 @@ module _ {m : MultiPortGraph} {M : Model} (f : Fine m M) where
           (let a = k.most in
           record {
             most = omega arith;
-            empty = λ i a b. ⊎_elim (λ q. ap (λ (u : ℕ). M.join (inner# c d u)) q ∙ j) (λ q. k.empty i a (omega arith)) (number_cases i n);
+            empty = λ i a b. ⊎_elim (λ q. ap (λ (u : ℕ). M.join (inner# c d u)) q ∙ j) (λ q. k.empty i a (omega arith)) (cases_eq i n);
             linked = k.linked;
           })
 
@@ -183,16 +184,6 @@ left_of : (b : NodeMeta) (d : Direction) → ports_on b (reversed d) ≡ 1 → (
 left_of b Incoming e = (refl, sym e)
 left_of b Outgoing e = (sym e, refl)
 
-both_counts : (k : NodeMeta) (d : Direction) → k.incoming + k.outgoing ≡ ports_on k d + ports_on k (reversed d)
-both_counts k Incoming = refl
-both_counts k Outgoing = omega arith
-
-twice_reversed : (d e : Direction) → d ≡ reversed e → reversed d ≡ e
-twice_reversed Incoming Incoming p = absurd (zero_is_not_one (cc))
-twice_reversed Incoming Outgoing p = refl
-twice_reversed Outgoing Incoming p = refl
-twice_reversed Outgoing Outgoing p = absurd (zero_is_not_one (cc))
-
 module _ {m : MultiPortGraph} {M : Model} (f : Fine m M) (x : model.InnerPlace) (h : Hangs m M x) (n : ℕ) (several : 2 ≤ n)
     (few : n ≤ count_of (M.node h.copy) x.side) (empty : (i : ℕ) → n ≤ i → M.join (inner# h.copy x.side i) ≡ nowhere) where
   abbrev k : NodeMeta
@@ -202,7 +193,7 @@ module _ {m : MultiPortGraph} {M : Model} (f : Fine m M) (x : model.InnerPlace) 
   here = (f.copy h.copy h.is_copy).here
 
   one : ports_on k (reversed x.side) ≡ 1
-  one = ap (ports_on k) (twice_reversed x.side (copy_side m h.copy) h.side) ∙ (f.copy h.copy h.is_copy).single
+  one = ap (ports_on k) (reversed_twice x.side (copy_side m h.copy) h.side) ∙ (f.copy h.copy h.is_copy).single
 
   count : count_of (M.node h.copy) x.side ≡ ports_on k x.side
   count = ap (λ (s : Slots). count_of s x.side) here
@@ -215,11 +206,11 @@ module _ {m : MultiPortGraph} {M : Model} (f : Fine m M) (x : model.InnerPlace) 
   drop_within =
       let a = f.good.ports_in_block h.copy k here in
       let b = f.good.block_small h.copy k here in
-      let s = both_counts k x.side in
+      let s = both_sides k x.side in
       let t = left_counts x.side n in
       let u = one in
       let v = count in
-      go (number_cases n (ports_on k x.side)) (omega arith) (omega arith) (omega arith)
+      go (cases_eq n (ports_on k x.side)) (omega arith) (omega arith) (omega arith)
     where
       go : (n ≡ ports_on k x.side) ⊎ (n ≡ ports_on k x.side → ⊥) → left_incoming x.side n + left_outgoing x.side n ≤ node_ports → 3 * (k.incoming + k.outgoing) ≤ enough
           → ((n ≡ ports_on k x.side → ⊥) → left_incoming x.side n + left_outgoing x.side n < k.capacity) → DropWithin m.graph h.copy k (left_incoming x.side n) (left_outgoing x.side n)
@@ -248,7 +239,7 @@ module _ {m : MultiPortGraph} {M : Model} (f : Fine m M) (x : model.InnerPlace) 
       let t = total_has node_slots h.copy (subports_of_slot m M) (omega arith) in
       let a : subports_of_slot m M h.copy ≡ ports_of (live k) - 1 = ap (λ (b : Bool). cond b (ports_of (M.node h.copy) - 1) 0) h.is_copy ∙ ap (λ (s : Slots). ports_of s - 1) here in
       let s = f.subs in
-      let b = both_counts k x.side in
+      let b = both_sides k x.side in
       let u = one in
       let v = count in
       let w = count_of_lem f h.copy x.side in
@@ -469,7 +460,7 @@ module _ {m : MultiPortGraph} {M : Model} (f : Fine m M) (x : model.InnerPlace) 
           blocks = ((λ n l b. (linked_up f x sx h y linked).blocks.0 n l ((went f x sx h).blocks.0 n l b)), λ n l b. (went f x sx h).blocks.1 n l ((linked_up f x sx h y linked).blocks.1 n l b));
           wires =
               record {
-                kept = λ w e t. stays w e (number_cases e.x.node h.copy) (number_cases e.y.node h.copy);
+                kept = λ w e t. stays w e (cases_eq e.x.node h.copy) (cases_eq e.y.node h.copy);
                 came = λ w b. absurd b;
                 only = λ w e.
                     ⊎_elim (λ a. ⊎_elim (λ b. inl (b.0, refl)) absurd ((went f x sx h).wires.only w a.0))
@@ -533,7 +524,7 @@ module _ {m : MultiPortGraph} {M : Model} (f : Fine m M) where
   unchanged x h =
       let k = f.copy h.copy h.is_copy in
       let c : count_of (M.node h.copy) x.side ≡ ports_on k.meta x.side = ap (λ (s : Slots). count_of s x.side) k.here in
-      let one : ports_on k.meta (reversed x.side) ≡ 1 = ap (ports_on k.meta) (twice_reversed x.side (copy_side m h.copy) h.side) ∙ k.single in
+      let one : ports_on k.meta (reversed x.side) ≡ 1 = ap (ports_on k.meta) (reversed_twice x.side (copy_side m h.copy) h.side) ∙ k.single in
       let l = left_of k.meta x.side one in
       let i : left_incoming x.side (count_of (M.node h.copy) x.side) ≡ k.meta.incoming = ap (left_incoming x.side) c ∙ l.0 in
       let o : left_outgoing x.side (count_of (M.node h.copy) x.side) ≡ k.meta.outgoing = ap (left_outgoing x.side) c ∙ l.1 in

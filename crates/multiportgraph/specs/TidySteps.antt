@@ -1,27 +1,29 @@
 -- What the code's steps of a tidy amount to.
-use Rattle.std.specs.Prelude.{◌≡◌, Bool, List, eqb, Ok, Err}
+use Rattle.std.specs.Prelude.{◌≡◌, Bool, List, eqb, not, Option, Some, None}
 use Rattle.std.proofs.Math.Path.{refl, sym, ap, transport}
-use Rattle.std.proofs.Common.{◌∙◌, subst, eq-eqb, ne_eqb, lt-ltb, le-ltb}
+use Rattle.std.proofs.Common.{◌∙◌, subst, eq-eqb, ne_eqb, lt-ltb}
 use Rattle.std.proofs.Math.Bool.{true, false, cond}
-use Prim.Native.Nat.{ℕ, zero, suc, ◌+◌, ◌-◌, ◌≤◌, ◌<◌}
+use Rattle.std.specs.Option.{option_map_or}
+use Prim.Native.Nat.{ℕ, zero, suc, ◌+◌, ◌-◌, ◌≤◌}
 use native.Mathlib.Omega.{arith}
 use Rattle.std.proofs.Math.ListN.{set}
 use Rattle.port_tables.specs.Limits.{port_slots}
+use Rattle.port_tables.specs.Lists.{range, filter, on_last}
+use Rattle.multiportgraph.specs.RangeSearches.{top_passed, top_found}
 use Rattle.port_tables.specs.Tables.{at}
 use Rattle.portgraph.specs.Lookups.{num_ports}
-use Rattle.port_tables.specs.Entries.{port#}
 use Rattle.portgraph.specs.Calls.{link_ports}
 use Rattle.portgraph.specs.Resize.{set_num_ports}
 use Rattle.portgraph.specs.Model as model
 use Rattle.portgraph.specs.Model.{Model, Wf, Far, nowhere, to, Slots, Valid, slot_of, count_of, first_of, side_start}
-use Rattle.portgraph.specs.GoodSlots.{slot_in_range, zero_is_not_one}
+use Rattle.portgraph.specs.GoodSlots.{slot_in_range}
 use Rattle.portgraph.specs.PlaceLaws.{link_none, link_to}
 use Rattle.port_tables.specs.declared.direction.Direction.{Direction}
 use Rattle.portgraph.specs.declared.portgraph.PortGraph.{PortGraph}
 use Rattle.portgraph.specs.declared.portgraph.PortsLinked.{PortsLinked}
 use Rattle.portgraph.specs.declared.resize.PortsSet.{PortsSet}
-use Rattle.multiportgraph.specs.Reading.{far_port, has_link, port_of, is_split, copy_node, subports, subport_at, seen}
-use Rattle.multi_tables.specs.Forms.{Port, dead, hidden, visible, put_flag}
+use Rattle.multiportgraph.specs.Reading.{far_port, has_link, port_of, is_split, copy_node, subports, subport_at}
+use Rattle.multi_tables.specs.Forms.{put_flag}
 use Rattle.multiportgraph.specs.WellFormed.{inner#, Fine}
 use Rattle.multiportgraph.specs.Ends.{BlockPort, Hangs, block_seen, split_has_copy, port_of_lem, linked_is, unlinked_is, far_of}
 use Rattle.multiportgraph.specs.Graph.{multi, with_graph, with_subports}
@@ -32,40 +34,8 @@ use Rattle.multiportgraph.specs.TableReadLaws.{owner_read, subports_read, first_
 use Rattle.multiportgraph.specs.HiddenNodes.{enough, recounted, unsplit}
 use Rattle.multiportgraph.specs.Tidy.{linked_up_to, subports_left, left_incoming, left_outgoing, resized_within, drop_subports, link_directly, tidied}
 use Rattle.multiportgraph.specs.TidyLaws.{LastLinked, last_linked, empty_above, within_is, drop_within, drop_marks, went, bare_is, unchanged}
-use Rattle.multiportgraph.specs.Calls.{tidy_port}
-use Rattle.multiportgraph.specs.Lookups.{direction_seen, direction_of}
-use Rattle.multiportgraph.specs.Cases.{tidy_refused, tidy_seen}
-use Rattle.multiportgraph.specs.CaseLaws.{tidy_cases}
-use Rattle.multiportgraph.specs.Presumed.{OnBlock, SplitPort, LeftPort}
+use Rattle.multiportgraph.specs.Presumed.{SplitPort, LeftPort}
 use Rattle.multiportgraph.specs.declared.multiportgraph.MultiPortGraph.{MultiPortGraph}
-use Rattle.multi_tables.specs.declared.answers.Refusal.{Refusal}
-use Rattle.multi_tables.specs.declared.answers.Refusal.TheVariants.{UnknownPort, HiddenPort}
-use Rattle.multiportgraph.specs.declared.multiportgraph.PortTidied.{PortTidied}
-
--- The loop of linked_from.
-
-one_less : (n : ℕ) → 0 < n → n ≡ suc (n - 1)
-one_less n h = omega arith
-
-stop : (t : List ℕ) (f k : ℕ) → (at t (f + k) ≡ 0 → ⊥) → suc k ≡ linked_from t f (suc k)
-unfolding linked_from
-stop t f k e = rw (ne_eqb (at t (f + k)) 0 e) refl
-
-turn : (t : List ℕ) (f k : ℕ) → at t (f + k) ≡ 0 → linked_from t f (suc k) ≡ linked_from t f k
-unfolding linked_from
-turn t f k e = rw (eq-eqb (at t (f + k)) 0 e) refl
-
-pub linked_stop : (t : List ℕ) (f n : ℕ) → 0 < n → (at t (f + (n - 1)) ≡ 0 → ⊥) → n - 1 + 1 ≡ linked_from t f n
-linked_stop t f n h e =
-    let one : n - 1 + 1 ≡ n = omega arith in
-    one ∙ subst (λ (k : ℕ). k ≡ linked_from t f k) (sym (one_less n h)) (stop t f (n - 1) e)
-
-pub linked_turn : (t : List ℕ) (f n : ℕ) → 0 < n → at t (f + (n - 1)) ≡ 0 → linked_from t f n ≡ linked_from t f (n - 1)
-linked_turn t f n h e = ap (linked_from t f) (one_less n h) ∙ turn t f (n - 1) e
-
-pub linked_end : (t : List ℕ) (f n : ℕ) → n ≤ 0 → linked_from t f n ≡ 0
-unfolding linked_from
-linked_end t f n h = let e : n ≡ 0 = omega arith in rw e
 
 -- What is read of a split port.
 module _ {m : MultiPortGraph} {p : ℕ} {d : Direction} (b : SplitPort m p d) where
@@ -280,10 +250,6 @@ all_left {m} {p} {d} b left e all =
 
 -- A split port, by how many of its subports are left.
 module _ {m : MultiPortGraph} {p : ℕ} {d : Direction} (b : SplitPort m p d) {left : ℕ} (l : left ≡ subports_left m p d) where
-  pub left_direct : {r : MultiPortGraph} → left < 2 → r ≡ link_directly m p d → r ≡ tidied m p d
-  unfolding tidied
-  left_direct few k = k ∙ sym (ap (λ (c : Bool). cond c (drop_subports m (copy_node m p) d (subports_left m p d)) (link_directly m p d)) (le-ltb 1 (subports_left m p d) (omega arith)))
-
   pub left_drop : {r : MultiPortGraph} → 2 ≤ left → r ≡ drop_subports m (copy_node m p) d left → r ≡ tidied m p d
   unfolding tidied
   left_drop more k =
@@ -293,19 +259,28 @@ module _ {m : MultiPortGraph} {p : ℕ} {d : Direction} (b : SplitPort m p d) {l
   pub left_all : {count : ℕ} → count ≡ subports m p d → 2 ≤ left → count ≤ left → m ≡ tidied m p d
   left_all c more all = left_drop more (all_left b left l (subst (λ (n : ℕ). n ≤ left) c all))
 
--- The call.
-module _ (m : MultiPortGraph) (p : ℕ) where
-  tidy_seen_lem : (s : Port) → seen m p ≡ s → tidy_seen m p s ≡ tidy_port m p
-  tidy_seen_lem s e = ap (tidy_seen m p) (sym e) ∙ sym (tidy_cases m p)
+-- The linked slots of a row, by a search from its end.
+module _ (t : List ℕ) (first : ℕ) where
+  abbrev pub holds_link : ℕ → Bool
+  holds_link k = not (eqb (at t (first + k)) 0)
 
-  pub tidy_done : {r : MultiPortGraph} {d : Direction} → OnBlock m p d → r ≡ cond (is_split m p) (tidied m p d) m → ◌≡◌ {A = PortTidied} (record { graph = r; answer = Ok tt }) (tidy_port m p)
-  tidy_done {d = d} b k = ap (λ (u : MultiPortGraph). record { graph = u; answer = Ok tt }) k ∙ tidy_seen_lem (visible b.node d) b.is
+  abbrev after : Option ℕ → ℕ
+  after o = option_map_or (λ k. k + 1) o 0
 
-  pub tidy_refused_lem : {a : Refusal} → direction_of m p ≡ Err a → tidy_refused m a ≡ tidy_port m p
-  unfolding direction_of
-  tidy_refused_lem {a} e = go (seen m p) refl e
+  row_left : (n : ℕ) → linked_from t first n ≡ after (on_last None Some (filter holds_link (range 0 n)))
+  unfolding linked_from on_last filter range
+  row_left zero = refl
+  row_left (suc n) = go (eqb (at t (first + n)) 0) refl (row_left n)
     where
-      go : (s : Port) → seen m p ≡ s → direction_seen p s ≡ Err a → tidy_refused m a ≡ tidy_port m p
-      go dead t e = let q : UnknownPort (port# p) ≡ a = cc in ap (tidy_refused m) (sym q) ∙ tidy_seen_lem dead t
-      go hidden t e = let q : HiddenPort (port# p) ≡ a = cc in ap (tidy_refused m) (sym q) ∙ tidy_seen_lem hidden t
-      go (visible n d) t e = absurd (zero_is_not_one (cc))
+      at_top : (b : Bool) → eqb (at t (first + n)) 0 ≡ b → holds_link (0 + n) ≡ not b
+      at_top b e = let z : 0 + n ≡ n = omega arith in ap holds_link z ∙ ap not e
+
+      go : (b : Bool) → eqb (at t (first + n)) 0 ≡ b → linked_from t first n ≡ after (on_last None Some (filter holds_link (range 0 n)))
+          → cond b (linked_from t first n) (suc n) ≡ after (on_last None Some (filter holds_link (range 0 (suc n))))
+      go true e h = h ∙ ap (λ (l : List ℕ). after (on_last None Some l)) (sym (top_passed holds_link 0 n (at_top true e)))
+      go false e h = let s : suc n ≡ 0 + n + 1 = omega arith in s ∙ ap after (sym (top_found holds_link 0 n (at_top false e)))
+
+  pub left_found : (n : ℕ) (r : Option ℕ) → r ≡ on_last None Some (filter holds_link (range 0 (n - 0))) → option_map_or (λ k. k + 1) r 0 ≡ linked_from t first n
+  left_found n r e =
+      let z : n - 0 ≡ n = omega arith in
+      ap after e ∙ (ap (λ (c : ℕ). after (on_last None Some (filter holds_link (range 0 c)))) z ∙ sym (row_left n))

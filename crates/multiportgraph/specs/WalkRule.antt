@@ -20,7 +20,7 @@ use Rattle.port_tables.specs.declared.direction.Direction.{Direction}
 use Rattle.port_tables.specs.declared.direction.Direction.TheVariants.{Outgoing}
 use Rattle.multiportgraph.specs.Reading.{owner_of, port_of, is_hidden, is_split, seen, subports, end_at, subport_of, standing_of, link_of_end}
 use Rattle.multi_tables.specs.Forms.{visible, End, inner, lacking, subport#, wire_to}
-use Rattle.multiportgraph.specs.Wires.{is_block, blocks, ports_of_side, subports_of_port, subports_of_side, wire_of, side_links, all_wires, is_beyond, first_item, wires_beyond, step_wires, start_wires, Walked, walked_on, walk_by, walk_wires, place_of, wire_places, long_walk, walked, wires_walked}
+use Rattle.multiportgraph.specs.Wires.{is_block, blocks, ports_of_side, subports_of_port, subports_of_side, wire_of, side_links, all_wires, is_beyond, first_item, wires_beyond, step_wires, start_wires, Walked, walked_on, walk_by, walk_wires, place_of, wire_places, long_walk, walked, wires_walked, held_at}
 use Rattle.multiportgraph.specs.WellFormed.{inner#, copy_place, Fine, Seen, lift, outer, IsEnd, WireIn}
 use Rattle.port_tables.specs.Listing.{Apart, member_right, member_flat_map, flat_map_member, member_map, map_member, length_map, member_filter, filter_member, member_range, range_member, in_wires, wire_member, filter_flat_map, flat_map_beyond, filter_rest, rising_by_items, rising_filter, rising_flat_map, rising_map, range_rises, apart_below, rising_once}
 use Rattle.multiportgraph.specs.Ends.{Hangs, ends_join_ends, place_of_sub, subport_of_lem, main_side, owner_of_lem, port_of_lem, count_of_lem, seen_block, main_seen, end_side, split_has_copy, one_copy, outer_of_block, unsplit_is_end}
@@ -183,7 +183,7 @@ module _ (m : MultiPortGraph) (w : SubportLink) where
 
 -- the cursor after a wire
 abbrev cursor_at : SubportLink → Wires
-cursor_at w = record { held = suc w.from.port.0; offset = w.from.subport_offset }
+cursor_at w = record { held = held_at w.from }
 
 abbrev whole : List SubportLink → Walked
 whole l = record { items = l; ended = true }

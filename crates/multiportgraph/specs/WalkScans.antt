@@ -9,7 +9,7 @@ use Rattle.port_tables.specs.declared.sides.Sides.{Sides}
 use Rattle.port_tables.specs.declared.node_entry.NodeEntry.{NodeEntry}
 use Rattle.multi_tables.specs.Forms.{Port, dead, hidden, visible, subport#}
 use Rattle.multi_tables.specs.TableReads.{seen_in}
-use Rattle.multiportgraph.specs.Wires.{side_links}
+use Rattle.multiportgraph.specs.Wires.{side_links, held_at}
 use Rattle.multiportgraph.specs.Walks.{is_seen, both_seen, by_sides, link_beyond}
 use Rattle.multi_tables.specs.Scans.{span_first, span_count, passes_in, links_in, end_before}
 use Rattle.multiportgraph.specs.declared.multiportgraph.MultiPortGraph.{MultiPortGraph}
@@ -24,7 +24,7 @@ unfoldable pub held_in : List ℕ → List Bool → ℕ → Bool
 held_in owners flags held = cond (eqb held 0) true (is_seen (seen_in owners flags (held - 1)))
 
 abbrev pub wires_found : Option SubportLink → Option (SubportLink × Wires)
-wires_found (Some w) = Some (w, record { held = suc w.from.port.0; offset = w.from.subport_offset })
+wires_found (Some w) = Some (w, record { held = held_at w.from })
 wires_found None = None
 
 -- the links of a block that a cursor has left, under a filter

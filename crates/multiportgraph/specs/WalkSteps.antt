@@ -1,19 +1,18 @@
 -- Steps of the walks over blocks, ports and a block's ports, over plain values.
+use Rattle.portgraph.specs.WalkLaws.{some_is_node}
 use Rattle.std.specs.Prelude.{◌≡◌, Bool, eqb, leb, get_or, length, Option, Some, None, Ok, Err}
 use Rattle.std.proofs.Math.Path.{refl, sym, ap}
 use Rattle.std.proofs.Common.{◌∙◌, eq-eqb, ne_eqb}
 use Rattle.std.proofs.Math.Bool.{true, false, cond}
-use mathlib.Core.List.{List, [], ◌∷◌, ◌++◌, append-nil}
+use mathlib.Core.List.{List, [], ◌∷◌}
 use Prim.Native.Nat.{ℕ, suc, ◌+◌, ◌-◌, ◌≤◌, ◌<◌, max}
 use native.Mathlib.Omega.{arith}
 use Rattle.port_tables.specs.Limits.{node_slots, port_slots}
 use Rattle.port_tables.specs.Lists.{range, filter, on_first, on_last}
-use Rattle.port_tables.specs.Entries.{fresh_slot, is_node, node#, port#, meta_of_entry, ports_from, ports_to}
-use Rattle.portgraph.specs.Lookups.{entry_at, is_some}
+use Rattle.port_tables.specs.Entries.{fresh_slot, is_node, node#, port#, ports_from, ports_to}
+use Rattle.portgraph.specs.Lookups.{entry_at}
 use Rattle.port_tables.specs.declared.node_entry.NodeMeta.{NodeMeta}
 use Rattle.port_tables.specs.declared.node_entry.NodeSlot.{NodeSlot}
-use Rattle.port_tables.specs.declared.node_entry.NodeEntry.{NodeEntry}
-use Rattle.port_tables.specs.declared.node_entry.NodeEntry.TheVariants as node_variants
 use Rattle.multiportgraph.specs.Reading.{is_hidden, seen}
 use Rattle.multi_tables.specs.Forms.{Port, flag_at}
 use Rattle.multiportgraph.specs.CodeForms.{block_found}
@@ -23,8 +22,8 @@ use Rattle.multi_tables.specs.TableReads.{seen_in}
 use Rattle.multiportgraph.specs.TableReadLaws.{seen_read}
 use Rattle.multiportgraph.specs.Wires.{is_block, blocks}
 use Rattle.multiportgraph.specs.Walks.{is_seen, held_seen, both_seen, between, node_held, blocks_left, step_nodes, step_nodes_back, all_ports, ports_left, step_all_ports, step_all_ports_back, ports_of_node, step_node_ports}
-use Rattle.port_tables.specs.Listing.{filter_append, filter_same}
-use Rattle.multiportgraph.specs.ScanLaws.{range_append, filter_swap, range_between, block_not_hidden, block_ports_rest, row_fits}
+use Rattle.port_tables.specs.Listing.{filter_same}
+use Rattle.multiportgraph.specs.ScanLaws.{filter_swap, range_between, block_not_hidden, block_ports_rest, row_fits}
 use Rattle.multiportgraph.specs.LookupSteps.{block_at, meta_is}
 use Rattle.multiportgraph.specs.WalkScans.{held_in, block_slot, ports_in}
 use Rattle.multiportgraph.specs.declared.multiportgraph.MultiPortGraph.{MultiPortGraph}
@@ -67,168 +66,7 @@ module _ (m : MultiPortGraph) (n : ℕ) where
   both_found k held b w e h =
       ap (λ (x : Bool). cond x (held_seen m held) false) (sym (block_at m n (Ok k) e)) ∙ sym (held_read m w held) ∙ h
 
--- A search through consecutive numbers, from either end.
-
-less_one : (n end : ℕ) → n < end → end - n ≡ suc (end - (n + 1))
-less_one n end h = omega arith
-
-module _ (t : ℕ → Bool) (n end : ℕ) where
-  pub search_turn : n < end → t n ≡ false → filter t (range (n + 1) (end - (n + 1))) ≡ filter t (range n (end - n))
-  unfolding range filter
-  search_turn h e =
-      let a : n + 1 ≡ suc n = omega arith in
-      rw (less_one n end h, e, a)
-
-  pub search_done : end ≤ n → filter t (range n (end - n)) ≡ []
-  unfolding range filter
-  search_done h = let e : end - n ≡ 0 = omega arith in rw e
-
-  pub search_found : {B : Type 0} (x : B) (f : ℕ → B) → n < end → t n ≡ true → on_first x f (filter t (range n (end - n))) ≡ f n
-  unfolding range filter on_first
-  search_found x f h e = rw (less_one n end h, e)
-
-last_append : {B : Type 0} (x : B) (f : ℕ → B) (l : List ℕ) (n : ℕ) → on_last x f (l ++ (n ∷ [])) ≡ f n
-unfolding on_last
-last_append x f [] n = refl
-last_append x f (y ∷ l) n = last_append (f y) f l n
-
-module _ (t : ℕ → Bool) (from end : ℕ) (h : from < end) where
-  one_more : filter t (range from (end - from)) ≡ filter t (range from (end - 1 - from)) ++ filter t (range (end - 1) 1)
-  one_more =
-      let a : end - from ≡ (end - 1 - from) + 1 = omega arith in
-      let b : from + (end - 1 - from) ≡ end - 1 = omega arith in
-      ap (filter t) (range_append from (end - 1 - from) 1 (end - from) a)
-      ∙ filter_append t (range from (end - 1 - from)) (range (from + (end - 1 - from)) 1)
-      ∙ ap (λ (x : ℕ). filter t (range from (end - 1 - from)) ++ filter t (range x 1)) b
-
-  pub back_turn : t (end - 1) ≡ false → filter t (range from (end - 1 - from)) ≡ filter t (range from (end - from))
-  unfolding range filter
-  back_turn e =
-      let last : filter t (range (end - 1) 1) ≡ [] = rw e in
-      sym (one_more ∙ ap (λ (l : List ℕ). filter t (range from (end - 1 - from)) ++ l) last ∙ append-nil (filter t (range from (end - 1 - from))))
-
-  pub back_found : {B : Type 0} (x : B) (f : ℕ → B) → t (end - 1) ≡ true → on_last x f (filter t (range from (end - from))) ≡ f (end - 1)
-  unfolding range filter
-  back_found {B} x f e =
-      let last : filter t (range (end - 1) 1) ≡ (end - 1) ∷ [] = rw e in
-      ap (on_last x f) (one_more ∙ ap (λ (l : List ℕ). filter t (range from (end - 1 - from)) ++ l) last)
-      ∙ last_append x f (filter t (range from (end - 1 - from))) (end - 1)
-
--- what a cursor with two ends has left of the numbers below c that pass a test
-left_between : (t : ℕ → Bool) (front back c : ℕ) → filter (between front back) (filter t (range 0 c)) ≡ filter t (range front (end_before back c - front))
-left_between t front back c = filter_swap (between front back) t (range 0 c) ∙ ap (filter t) (range_between front back c)
-
--- Blocks.
-
-node_some : (e : NodeEntry) → is_some (meta_of_entry e) ≡ is_node e
-node_some (node_variants.Free f) = refl
-node_some (node_variants.Node k) = refl
-
-module _ (m : MultiPortGraph) where
-  pub node_held_none : (held : ℕ) → held ≡ 0 → true ≡ node_held m held
-  unfolding node_held
-  node_held_none held e = rw (eq-eqb held 0 e)
-
-  pub node_held_some : (held : ℕ) (r : Bool) → (held ≡ 0 → ⊥) → r ≡ is_block m (held - 1) → r ≡ node_held m held
-  unfolding node_held
-  node_held_some held r h e = rw (ne_eqb held 0 h) e
-
-  -- a slot that is read holds a block
-  pub block_told : (n : ℕ) (b r : Bool) {slots : List NodeSlot} → slots ≡ m.graph.node_meta → length m.copy_node ≡ node_slots → b ≡ flag_at m.copy_node node_slots n
-      → r ≡ block_slot (get_or slots n fresh_slot).entry b → r ≡ is_block m n
-  unfolding is_block is_hidden
-  block_told n b r s long e f =
-      f ∙ ap (λ (l : List NodeSlot). block_slot (get_or l n fresh_slot).entry b) s ∙ ap (λ (x : Bool). cond x false (is_node (entry_at m.graph n))) (e ∙ flag_is m.copy_node node_slots n long)
-      ∙ ap (cond (get_or m.copy_node n false) false) (sym (node_some (entry_at m.graph n)))
-
-  module _ (c : Nodes) where
-    pub nodes_front_gone : node_held m c.front ≡ false → None ≡ step_nodes m c
-    unfolding step_nodes blocks_left on_first
-    nodes_front_gone e = rw e
-
-    pub nodes_back_gone : node_held m c.front ≡ true → node_held m c.back ≡ false → None ≡ step_nodes m c
-    unfolding step_nodes blocks_left on_first
-    nodes_back_gone e f = rw (e, f)
-
-    pub back_front_gone : node_held m c.front ≡ false → None ≡ step_nodes_back m c
-    unfolding step_nodes_back blocks_left on_last
-    back_front_gone e = rw e
-
-    pub back_back_gone : node_held m c.front ≡ true → node_held m c.back ≡ false → None ≡ step_nodes_back m c
-    unfolding step_nodes_back blocks_left on_last
-    back_back_gone e f = rw (e, f)
-
-    module _ (front end : ℕ) (he : node_held m c.front ≡ true) (hf : node_held m c.back ≡ true) (ef : front ≡ c.front) (ee : end ≡ end_before c.back node_slots) where
-      blocks_left_lem : filter (is_block m) (range front (end - front)) ≡ blocks_left m c
-      unfolding blocks_left blocks
-      blocks_left_lem =
-          ap (λ (x : ℕ). filter (is_block m) (range x (end - x))) ef
-          ∙ ap (λ (x : ℕ). filter (is_block m) (range c.front (x - c.front))) ee
-          ∙ rw (he, hf) (sym (left_between (is_block m) c.front c.back node_slots))
-
-      module _ (n : ℕ) (inv : filter (is_block m) (range n (end - n)) ≡ filter (is_block m) (range front (end - front))) where
-        pub nodes_item : n < end → is_block m n ≡ true → Some (node# n, record { front = n + 1; back = c.back }) ≡ step_nodes m c
-        unfolding step_nodes
-        nodes_item h e =
-            let one : n + 1 ≡ suc n = omega arith in
-            ap (λ (x : ℕ). Some (node# n, record { front = x; back = c.back })) one
-            ∙ sym (search_found (is_block m) n end None (λ x. Some (node# x, record { front = suc x; back = c.back })) h e)
-            ∙ ap (on_first None (λ x. Some (node# x, record { front = suc x; back = c.back }))) (inv ∙ blocks_left_lem)
-
-        pub nodes_none : end ≤ n → None ≡ step_nodes m c
-        unfolding step_nodes on_first
-        nodes_none h =
-            ap (on_first None (λ x. Some (node# x, record { front = suc x; back = c.back }))) (sym (search_done (is_block m) n end h) ∙ inv ∙ blocks_left_lem)
-
-      module _ (stop : ℕ) (inv : filter (is_block m) (range front (stop - front)) ≡ filter (is_block m) (range front (end - front))) where
-        pub back_item : front < stop → is_block m (stop - 1) ≡ true
-            → Some (node# (stop - 1), record { front = c.front; back = stop - 1 + 1 }) ≡ step_nodes_back m c
-        unfolding step_nodes_back
-        back_item h e =
-            let one : stop - 1 + 1 ≡ suc (stop - 1) = omega arith in
-            ap (λ (x : ℕ). Some (node# (stop - 1), record { front = c.front; back = x })) one
-            ∙ sym (back_found (is_block m) front stop h None (λ x. Some (node# x, record { front = c.front; back = suc x })) e)
-            ∙ ap (on_last None (λ x. Some (node# x, record { front = c.front; back = suc x }))) (inv ∙ blocks_left_lem)
-
-        pub back_none : stop ≤ front → None ≡ step_nodes_back m c
-        unfolding step_nodes_back on_last
-        back_none h =
-            ap (on_last None (λ x. Some (node# x, record { front = c.front; back = suc x }))) (sym (search_done (is_block m) front stop h) ∙ inv ∙ blocks_left_lem)
-
--- All ports.
-
-module _ (owners : List ℕ) (flags : List Bool) (from end : ℕ) where
-  abbrev is_port_in : ℕ → Bool
-  is_port_in p = is_seen (seen_in owners flags p)
-
-  module _ (p : ℕ) (inv : ports_in owners flags p end ≡ ports_in owners flags from end) (r : Bool) (e : r ≡ held_in owners flags (p + 1)) where
-    pub port_found : p < end → r ≡ true → ◌≡◌ {A = Option ℕ} (Some p) (on_first None Some (ports_in owners flags from end))
-    unfolding ports_in
-    port_found h g =
-        sym (search_found is_port_in p end None Some h (sym (held_next owners flags p) ∙ sym e ∙ g)) ∙ ap (on_first None Some) inv
-
-    pub port_turn : p < end → r ≡ false → ports_in owners flags (p + 1) end ≡ ports_in owners flags from end
-    unfolding ports_in
-    port_turn h g = search_turn is_port_in p end h (sym (held_next owners flags p) ∙ sym e ∙ g) ∙ inv
-
-  pub port_none : (p : ℕ) → ports_in owners flags p end ≡ ports_in owners flags from end → end ≤ p → ◌≡◌ {A = Option ℕ} None (on_first None Some (ports_in owners flags from end))
-  unfolding ports_in on_first
-  port_none p inv h = ap (on_first None Some) (sym (search_done is_port_in p end h) ∙ inv)
-
-  module _ (stop : ℕ) (inv : ports_in owners flags from stop ≡ ports_in owners flags from end) where
-    module _ (r : Bool) (e : r ≡ held_in owners flags (stop - 1 + 1)) (h : from < stop) where
-      pub last_port_found : r ≡ true → ◌≡◌ {A = Option ℕ} (Some (stop - 1)) (on_last None Some (ports_in owners flags from end))
-      unfolding ports_in
-      last_port_found g =
-          sym (back_found is_port_in from stop h None Some (sym (held_next owners flags (stop - 1)) ∙ sym e ∙ g)) ∙ ap (on_last None Some) inv
-
-      pub last_port_turn : r ≡ false → ports_in owners flags from (stop - 1) ≡ ports_in owners flags from end
-      unfolding ports_in
-      last_port_turn g = back_turn is_port_in from stop h (sym (held_next owners flags (stop - 1)) ∙ sym e ∙ g) ∙ inv
-
-    pub last_port_none : stop ≤ from → ◌≡◌ {A = Option ℕ} None (on_last None Some (ports_in owners flags from end))
-    unfolding ports_in on_last
-    last_port_none h = ap (on_last None Some) (sym (search_done is_port_in from stop h) ∙ inv)
+-- Blocks and ports that are left, from either end.
 
 -- what is made of the first and of the last of a list, by whether there is one
 module _ {B : Type 0} (x : B) (f : ℕ → B) where
@@ -261,6 +99,79 @@ module _ {B : Type 0} (x : B) (f : ℕ → B) where
   unfolding on_last
   last_lacks [] e = refl
   last_lacks (y ∷ l) e = absurd (last_there l y e)
+
+-- what a cursor with two ends has left of the numbers below c that pass a test
+left_between : (t : ℕ → Bool) (front back c : ℕ) → filter (between front back) (filter t (range 0 c)) ≡ filter t (range front (end_before back c - front))
+left_between t front back c = filter_swap (between front back) t (range 0 c) ∙ ap (filter t) (range_between front back c)
+
+-- Blocks.
+
+module _ (m : MultiPortGraph) where
+  -- a slot that is read holds a block
+  pub block_told : (n : ℕ) (b r : Bool) {slots : List NodeSlot} → slots ≡ m.graph.node_meta → length m.copy_node ≡ node_slots → b ≡ flag_at m.copy_node node_slots n
+      → r ≡ block_slot (get_or slots n fresh_slot).entry b → r ≡ is_block m n
+  unfolding is_block is_hidden
+  block_told n b r s long e f =
+      f ∙ ap (λ (l : List NodeSlot). block_slot (get_or l n fresh_slot).entry b) s ∙ ap (λ (x : Bool). cond x false (is_node (entry_at m.graph n))) (e ∙ flag_is m.copy_node node_slots n long)
+      ∙ ap (cond (get_or m.copy_node n false) false) (sym (some_is_node (entry_at m.graph n)))
+
+  module _ (c : Nodes) where
+    pub nodes_front_gone : node_held m c.front ≡ false → None ≡ step_nodes m c
+    unfolding step_nodes blocks_left on_first
+    nodes_front_gone e = rw e
+
+    pub nodes_back_gone : node_held m c.front ≡ true → node_held m c.back ≡ false → None ≡ step_nodes m c
+    unfolding step_nodes blocks_left on_first
+    nodes_back_gone e f = rw (e, f)
+
+    pub back_front_gone : node_held m c.front ≡ false → None ≡ step_nodes_back m c
+    unfolding step_nodes_back blocks_left on_last
+    back_front_gone e = rw e
+
+    pub back_back_gone : node_held m c.front ≡ true → node_held m c.back ≡ false → None ≡ step_nodes_back m c
+    unfolding step_nodes_back blocks_left on_last
+    back_back_gone e f = rw (e, f)
+
+    module _ (front end : ℕ) (he : node_held m c.front ≡ true) (hf : node_held m c.back ≡ true) (ef : front ≡ c.front) (ee : end ≡ end_before c.back node_slots) where
+      blocks_left_lem : filter (is_block m) (range front (end - front)) ≡ blocks_left m c
+      unfolding blocks_left blocks
+      blocks_left_lem =
+          ap (λ (x : ℕ). filter (is_block m) (range x (end - x))) ef
+          ∙ ap (λ (x : ℕ). filter (is_block m) (range c.front (x - c.front))) ee
+          ∙ rw (he, hf) (sym (left_between (is_block m) c.front c.back node_slots))
+
+      abbrev blocks_seen : List ℕ
+      blocks_seen = filter (is_block m) (range front (end - front))
+
+      pub nodes_item : (n : ℕ) → ◌≡◌ {A = Option ℕ} (Some n) (on_first None Some blocks_seen) → Some (node# n, record { front = n + 1; back = c.back }) ≡ step_nodes m c
+      unfolding step_nodes
+      nodes_item n e =
+          let one : n + 1 ≡ suc n = omega arith in
+          ap (λ (x : ℕ). Some (node# n, record { front = x; back = c.back })) one
+          ∙ first_by None (λ x. Some (node# x, record { front = suc x; back = c.back })) blocks_seen n e
+          ∙ ap (on_first None (λ x. Some (node# x, record { front = suc x; back = c.back }))) blocks_left_lem
+
+      pub nodes_none : ◌≡◌ {A = Option ℕ} None (on_first None Some blocks_seen) → None ≡ step_nodes m c
+      unfolding step_nodes
+      nodes_none e =
+          first_lacks None (λ x. Some (node# x, record { front = suc x; back = c.back })) blocks_seen e
+          ∙ ap (on_first None (λ x. Some (node# x, record { front = suc x; back = c.back }))) blocks_left_lem
+
+      pub back_item : (n : ℕ) → ◌≡◌ {A = Option ℕ} (Some n) (on_last None Some blocks_seen) → Some (node# n, record { front = c.front; back = n + 1 }) ≡ step_nodes_back m c
+      unfolding step_nodes_back
+      back_item n e =
+          let one : n + 1 ≡ suc n = omega arith in
+          ap (λ (x : ℕ). Some (node# n, record { front = c.front; back = x })) one
+          ∙ last_by None (λ x. Some (node# x, record { front = c.front; back = suc x })) blocks_seen n e
+          ∙ ap (on_last None (λ x. Some (node# x, record { front = c.front; back = suc x }))) blocks_left_lem
+
+      pub back_none : ◌≡◌ {A = Option ℕ} None (on_last None Some blocks_seen) → None ≡ step_nodes_back m c
+      unfolding step_nodes_back
+      back_none e =
+          last_lacks None (λ x. Some (node# x, record { front = c.front; back = suc x })) blocks_seen e
+          ∙ ap (on_last None (λ x. Some (node# x, record { front = c.front; back = suc x }))) blocks_left_lem
+
+-- All ports.
 
 module _ (m : MultiPortGraph) (w : MultiWf m) (c : Ports) where
   module _ (a : Bool) (ea : a ≡ held_in m.graph.port_meta m.copy_node c.front) where

@@ -15,7 +15,7 @@ use Rattle.port_tables.specs.declared.sides.Sides.{Sides}
 use Rattle.port_tables.specs.declared.sides.Sides.TheVariants.{One, Both}
 use Rattle.multiportgraph.specs.Reading.{owner_of, is_hidden, seen}
 use Rattle.multi_tables.specs.Forms.{Port, dead, hidden, visible, sum_of}
-use Rattle.multiportgraph.specs.Wires.{is_block, blocks, ports_of_side, subports_of_side, subports_of_port, side_links, wire_of, is_beyond}
+use Rattle.multiportgraph.specs.Wires.{is_block, blocks, ports_of_side, subports_of_side, subports_of_port, side_links, wire_of, is_beyond, held_at}
 use Rattle.multiportgraph.specs.declared.multiportgraph.MultiPortGraph.{MultiPortGraph}
 use Rattle.multi_tables.specs.declared.answers.Refusal.{Refusal}
 use Rattle.multi_tables.specs.declared.answers.Refusal.TheVariants.{UnknownNode, HiddenNode, UnknownPort, HiddenPort}
@@ -138,10 +138,10 @@ subport_beyond held o s =
 
 unfoldable pub step_subports : MultiPortGraph → NodeSubports → Option (SubportIndex × NodeSubports)
 step_subports m c =
-    cond (both_seen m c.node.0 c.held)
+    cond (both_seen m c.node.0 c.held.port)
     (on_first None
-    (λ s. Some (s, record { node = c.node; sides = c.sides; held = suc s.port.0; offset = s.subport_offset }))
-    (filter (subport_beyond c.held c.offset) (subports_of m c.node.0 c.sides)))
+    (λ s. Some (s, record { node = c.node; sides = c.sides; held = held_at s }))
+    (filter (subport_beyond c.held.port c.held.offset) (subports_of m c.node.0 c.sides)))
     None
 
 -- Links of a port, from either end.
@@ -194,18 +194,16 @@ links_item c w =
       record {
         node = c.node;
         sides = c.sides;
-        skip_from = c.skip_from;
-        skip_to = c.skip_to;
-        held = suc w.from.port.0;
-        offset = w.from.subport_offset;
+        skip = c.skip;
+        held = held_at w.from;
       },
     )
 
 unfoldable pub step_links : MultiPortGraph → NodeLinks → Option (SubportLink × NodeLinks)
 step_links m c =
-    cond (both_seen m c.node.0 c.held)
+    cond (both_seen m c.node.0 c.held.port)
     (on_first None (links_item c)
-    (filter (link_beyond c.held c.offset) (node_links m c.node.0 c.sides c.skip_from c.skip_to)))
+    (filter (link_beyond c.held.port c.held.offset) (node_links m c.node.0 c.sides c.skip.from c.skip.to)))
     None
 
 -- Neighbours, one for each link.
@@ -233,16 +231,15 @@ neighbours_item m c w =
         node = c.node;
         sides = c.sides;
         ignore_self = c.ignore_self;
-        held = suc w.from.port.0;
-        offset = w.from.subport_offset;
+        held = held_at w.from;
       },
     )
 
 unfoldable pub step_neighbours : MultiPortGraph → Neighbours → Option (NodeIndex × Neighbours)
 step_neighbours m c =
-    cond (both_seen m c.node.0 c.held)
+    cond (both_seen m c.node.0 c.held.port)
     (on_first None (neighbours_item m c)
-    (filter (link_beyond c.held c.offset) (neighbour_links m c.node.0 c.sides c.ignore_self)))
+    (filter (link_beyond c.held.port c.held.offset) (neighbour_links m c.node.0 c.sides c.ignore_self)))
     None
 
 -- Connections from one block's outgoing side to another block, repeated per wire.
@@ -252,15 +249,15 @@ connections m n k = filter (λ (w : SubportLink). eqb (owner_of m.graph w.to.por
 
 abbrev pub connections_item : NodeConnections → SubportLink → Option (SubportLink × NodeConnections)
 connections_item c w =
-    Some (w, record { node = c.node; target = c.target; held = suc w.from.port.0; offset = w.from.subport_offset })
+    Some (w, record { node = c.node; target = c.target; held = held_at w.from })
 
 -- both blocks are still there, and the port held
 unfoldable pub step_connections : MultiPortGraph → NodeConnections → Option (SubportLink × NodeConnections)
 step_connections m c =
     cond (is_block m c.target.0)
-    (cond (both_seen m c.node.0 c.held)
+    (cond (both_seen m c.node.0 c.held.port)
     (on_first None (connections_item c)
-    (filter (link_beyond c.held c.offset) (connections m c.node.0 c.target.0)))
+    (filter (link_beyond c.held.port c.held.offset) (connections m c.node.0 c.target.0)))
     None)
     None
 
@@ -274,7 +271,7 @@ abbrev pub start_node_ports : MultiPortGraph → NodeIndex → Sides → Result 
 start_node_ports m n sides = node_ports_from n sides (start_at_node m n.0)
 
 abbrev pub subports_from : NodeIndex → Sides → Start → Result NodeSubports Refusal
-subports_from n sides started = Ok (record { node = n; sides = sides; held = 0; offset = 0 })
+subports_from n sides started = Ok (record { node = n; sides = sides; held = record { port = 0; offset = 0 } })
 subports_from n sides (refused r) = Err r
 
 abbrev pub start_subports : MultiPortGraph → NodeIndex → Sides → Result NodeSubports Refusal
@@ -289,7 +286,7 @@ start_port_links m p = port_links_from p (start_at_port m p.0)
 
 abbrev pub links_from : NodeIndex → Sides → ℕ → ℕ → Start → Result NodeLinks Refusal
 links_from n sides lo hi started =
-    Ok (record { node = n; sides = sides; skip_from = lo; skip_to = hi; held = 0; offset = 0 })
+    Ok (record { node = n; sides = sides; skip = record { from = lo; to = hi }; held = record { port = 0; offset = 0 } })
 links_from n sides lo hi (refused r) = Err r
 
 abbrev pub start_links : MultiPortGraph → NodeIndex → Sides → ℕ → ℕ → Result NodeLinks Refusal
@@ -297,14 +294,14 @@ start_links m n sides lo hi = links_from n sides lo hi (start_at_node m n.0)
 
 abbrev pub neighbours_from : NodeIndex → Sides → Bool → Start → Result Neighbours Refusal
 neighbours_from n sides flag started =
-    Ok (record { node = n; sides = sides; ignore_self = flag; held = 0; offset = 0 })
+    Ok (record { node = n; sides = sides; ignore_self = flag; held = record { port = 0; offset = 0 } })
 neighbours_from n sides flag (refused r) = Err r
 
 abbrev pub start_neighbours : MultiPortGraph → NodeIndex → Sides → Bool → Result Neighbours Refusal
 start_neighbours m n sides flag = neighbours_from n sides flag (start_at_node m n.0)
 
 abbrev pub connections_from : NodeIndex → NodeIndex → Start → Result NodeConnections Refusal
-connections_from n k started = Ok (record { node = n; target = k; held = 0; offset = 0 })
+connections_from n k started = Ok (record { node = n; target = k; held = record { port = 0; offset = 0 } })
 connections_from n k (refused r) = Err r
 
 abbrev pub start_connections : MultiPortGraph → NodeIndex → NodeIndex → Result NodeConnections Refusal

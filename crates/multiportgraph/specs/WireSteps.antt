@@ -21,26 +21,26 @@ found_first [] = refl
 found_first (w ∷ l) = refl
 
 module _ (m : MultiPortGraph) (w : MultiWf m) (c : Wires) where
-  pub step_start : (r : Option SubportLink) (s : Option (SubportLink × Wires)) → c.held ≡ 0
+  pub step_start : (r : Option SubportLink) (s : Option (SubportLink × Wires)) → c.held.port ≡ 0
       → r ≡ first_found (wires_in m.multiport m.graph.port_link m.graph.port_meta m.copy_node m.graph.node_meta 0 0 0 node_slots)
       → s ≡ wires_found r → s ≡ step_wires m c
   unfolding step_wires
   step_start r s z e f =
       let all = wires_read m w in
-      f ∙ ap wires_found (e ∙ ap first_found all) ∙ found_first (all_wires m) ∙ rw (eq-eqb c.held 0 z)
+      f ∙ ap wires_found (e ∙ ap first_found all) ∙ found_first (all_wires m) ∙ rw (eq-eqb c.held.port 0 z)
 
-  pub step_seen : (p : Port) → (c.held ≡ 0 → ⊥) → seen m (c.held - 1) ≡ p → wires_seen m (c.held - 1) c.offset p ≡ step_wires m c
+  pub step_seen : (p : Port) → (c.held.port ≡ 0 → ⊥) → seen m (c.held.port - 1) ≡ p → wires_seen m (c.held.port - 1) c.held.offset p ≡ step_wires m c
   unfolding step_wires
-  step_seen p z e = rw (ne_eqb c.held 0 z, e)
+  step_seen p z e = rw (ne_eqb c.held.port 0 z, e)
 
-  pub step_on : (n k : ℕ) (d : Direction) (r : Option SubportLink) (s : Option (SubportLink × Wires)) → (c.held ≡ 0 → ⊥) → seen m (c.held - 1) ≡ visible n d → k ≡ n
-      → r ≡ first_found (wires_in m.multiport m.graph.port_link m.graph.port_meta m.copy_node m.graph.node_meta k c.held c.offset (node_slots - k))
+  pub step_on : (n k : ℕ) (d : Direction) (r : Option SubportLink) (s : Option (SubportLink × Wires)) → (c.held.port ≡ 0 → ⊥) → seen m (c.held.port - 1) ≡ visible n d → k ≡ n
+      → r ≡ first_found (wires_in m.multiport m.graph.port_link m.graph.port_meta m.copy_node m.graph.node_meta k c.held.port c.held.offset (node_slots - k))
       → s ≡ wires_found r → s ≡ step_wires m c
   step_on n k d r s z e g h f =
-      let beyond = wires_beyond_read m w (c.held - 1) n d c.offset e in
-      let one : c.held ≡ suc (c.held - 1) = omega arith in
+      let beyond = wires_beyond_read m w (c.held.port - 1) n d c.held.offset e in
+      let one : c.held.port ≡ suc (c.held.port - 1) = omega arith in
       f ∙ ap wires_found
-      (h ∙ ap (λ (x : ℕ). first_found (wires_in m.multiport m.graph.port_link m.graph.port_meta m.copy_node m.graph.node_meta x c.held c.offset (node_slots - x))) g
-      ∙ ap (λ (x : ℕ). first_found (wires_in m.multiport m.graph.port_link m.graph.port_meta m.copy_node m.graph.node_meta n x c.offset (node_slots - n))) one
+      (h ∙ ap (λ (x : ℕ). first_found (wires_in m.multiport m.graph.port_link m.graph.port_meta m.copy_node m.graph.node_meta x c.held.port c.held.offset (node_slots - x))) g
+      ∙ ap (λ (x : ℕ). first_found (wires_in m.multiport m.graph.port_link m.graph.port_meta m.copy_node m.graph.node_meta n x c.held.offset (node_slots - n))) one
       ∙ ap first_found beyond)
-      ∙ found_first (wires_beyond m n (c.held - 1) c.offset) ∙ step_seen (visible n d) z e
+      ∙ found_first (wires_beyond m n (c.held.port - 1) c.held.offset) ∙ step_seen (visible n d) z e

@@ -13,6 +13,7 @@ use Rattle.multiportgraph.specs.declared.multiportgraph.MultiPortGraph.{MultiPor
 use Rattle.multi_tables.specs.declared.answers.SubportIndex.{SubportIndex}
 use Rattle.multi_tables.specs.declared.answers.SubportLink.{SubportLink}
 use Rattle.multiportgraph.specs.declared.iter.Wires.{Wires}
+use Rattle.multi_tables.specs.declared.scans.Held.{Held}
 use Rattle.port_tables.specs.Places.{Wire}
 
 -- Listings.
@@ -54,9 +55,13 @@ all_wires m = flat_map (side_links m Outgoing) (blocks m)
 unfoldable pub is_beyond : ℕ → ℕ → SubportLink → Bool
 is_beyond p o w = cond (eqb w.from.port.0 p) (ltb o w.from.subport_offset) (ltb p w.from.port.0)
 
+-- what a cursor holds that gave this subport, or a link from it, last
+abbrev pub held_at : SubportIndex → Held
+held_at s = record { port = suc s.port.0; offset = s.subport_offset }
+
 abbrev pub first_item : List SubportLink → Option (SubportLink × Wires)
 first_item [] = None
-first_item (w ∷ l) = Some (w, record { held = suc w.from.port.0; offset = w.from.subport_offset })
+first_item (w ∷ l) = Some (w, record { held = held_at w.from })
 
 -- what is left of the listing beyond a port of block n and an offset: the rest of that block, then later blocks
 unfoldable pub wires_beyond : MultiPortGraph → ℕ → ℕ → ℕ → List SubportLink
@@ -70,10 +75,10 @@ wires_seen m p o hidden = None
 wires_seen m p o (visible n d) = first_item (wires_beyond m n p o)
 
 unfoldable pub step_wires : MultiPortGraph → Wires → Option (SubportLink × Wires)
-step_wires m c = cond (eqb c.held 0) (first_item (all_wires m)) (wires_seen m (c.held - 1) c.offset (seen m (c.held - 1)))
+step_wires m c = cond (eqb c.held.port 0) (first_item (all_wires m)) (wires_seen m (c.held.port - 1) c.held.offset (seen m (c.held.port - 1)))
 
 abbrev pub start_wires : Wires
-start_wires = record { held = 0; offset = 0 }
+start_wires = record { held = record { port = 0; offset = 0 } }
 
 -- A walk from a cursor, with so many steps at the most: the items, and whether the last step answered the end.
 pub record Walked : Type 0 where

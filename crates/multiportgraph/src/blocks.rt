@@ -14,28 +14,23 @@ ghost use Rattle.multiportgraph.specs.Answers.{remove_numbers, set_numbers};
 use crate::ends::port_of;
 use crate::multiportgraph::{MultiPortGraph, NodeRemoved, PortsSet};
 use multi_tables::answers::Refusal;
-use multi_tables::marks::marked;
+use multi_tables::marks::flagged;
 use port_tables::index::{NODE_PORTS, NodeIndex};
 use port_tables::node_entry::NodeMeta;
 use port_tables::numbers::wide;
+use port_tables::resize_links::{Resize, too_many_ports};
 use portgraph::portgraph::PortGraph;
 use portgraph::resize::SetError;
 
-// How many ports a block is to have on each side.
-#[derive(Clone, Copy)]
-struct SideCounts {
+// A block that is to have so many ports, or why that is refused.
+fn within(
+    found: Result<NodeMeta, Refusal>,
     incoming: usize,
     outgoing: usize,
-}
-
-// A block that is to have so many ports, or why that is refused.
-fn within(found: Result<NodeMeta, Refusal>, counts: SideCounts) -> Result<NodeMeta, Refusal>
-    ensures { result ≡ cond (leb (counts.incoming + counts.outgoing) node_ports) found (Err TooManyPorts) }
+) -> Result<NodeMeta, Refusal>
+    ensures { result ≡ cond (leb (incoming + outgoing) node_ports) found (Err TooManyPorts) }
 {
-    if NODE_PORTS < counts.incoming {
-        return Err(Refusal::TooManyPorts);
-    }
-    if NODE_PORTS - counts.incoming < counts.outgoing {
+    if too_many_ports(incoming, outgoing) {
         return Err(Refusal::TooManyPorts);
     }
     found
@@ -46,84 +41,76 @@ fn within(found: Result<NodeMeta, Refusal>, counts: SideCounts) -> Result<NodeMe
 pub fn set_answer(lower: Result<usize, SetError>) -> Result<usize, Refusal>
     ensures { result ≡ set_as lower }
 {
-    match lower {
-        Ok(events) => Ok(events),
-        Err(SetError::TooManyPorts) => Err(Refusal::TooManyPorts),
-        Err(SetError::UnknownNode) => Err(Refusal::UnknownNode),
-        Err(SetError::MovesTooShort) => Err(Refusal::MovesTooShort),
-        Err(SetError::NoRoom) => Err(Refusal::NoRoom),
-    }
+    lower.map_err(|error| match error {
+        SetError::TooManyPorts => Refusal::TooManyPorts,
+        SetError::UnknownNode => Refusal::UnknownNode,
+        SetError::MovesTooShort => Refusal::MovesTooShort,
+        SetError::NoRoom => Refusal::NoRoom,
+    })
 }
 
 impl MultiPortGraph {
     // `count` ports from `first` on lose their hidden nodes, the first one first.
+    #[tactic(auto, unfolding(crate::specs::HiddenNodes::unsplit_range))]
     fn unsplit_range(self, first: u32, count: usize) -> MultiPortGraph
         requires { Wf self.graph × (first + count ≤ port_slots) }
         ensures { result ≡ unsplit_range self first count }
     {
         let mut graph = self;
         for k in 0..count {
-            let port = wide(first) + k;
-            if marked(&graph.multiport, port) {
-                graph = graph.unsplit(port as u32);
-            }
+            graph = graph.unsplit(first + k as u32);
         }
         graph
     }
 
     // Removes a block with every wire at it.
+    #[tactic(auto, unfolding(crate::specs::Calls::remove_block, crate::specs::CodeForms::block_found))]
     pub fn remove_node(self, node: NodeIndex) -> NodeRemoved
         requires { MultiWf self }
         ensures { (result ≡ remove_block self node.0) × (remove_numbers result.answer ≡ remove_numbers (remove_block self node.0).answer) }
     {
         match self.block(node) {
-            Ok(meta) => {
-                return NodeRemoved {
-                    graph: self.without_block(node, meta),
-                    answer: Ok(()),
-                };
-            }
-            Err(refusal) => {
-                return NodeRemoved {
-                    graph: self,
-                    answer: Err(refusal),
-                };
-            }
+            Ok(meta) => NodeRemoved {
+                graph: self.without_block(node, meta),
+                answer: Ok(()),
+            },
+            Err(refusal) => NodeRemoved {
+                graph: self,
+                answer: Err(refusal),
+            },
         }
     }
 
     // The graph without a block: the hidden nodes of its ports go, then the block.
+    #[tactic(auto, unfolding(crate::specs::Calls::drop_block), using(crate::specs::BlockSteps::wf_bare))]
     fn without_block(self, node: NodeIndex, meta: NodeMeta) -> MultiPortGraph
         requires { Wf self.graph × BlockFits meta }
         ensures { result ≡ drop_block self node.0 meta }
     {
         let mut bare = self.unsplit_range(meta.first_port.0, meta.port_count());
         let removed = bare.graph.remove_node(node);
-        let after = removed.graph;
-        bare.graph = after;
+        bare.graph = removed.graph;
         bare
     }
 
-    // Lists the hidden nodes of `count` ports from `first` on, in order, from place `at` on; answers the place after the last.
-    // An array with its count: no heap.
-    fn copies_in(self, list: &mut [u32; NODE_PORTS], at: usize, first: usize, count: usize) -> usize
-        requires { (first + count ≤ port_slots) × (at + count ≤ node_ports) }
-        ensures { (result ≡ at + length (copies_in self first count)) × (list.new ≡ sets list.old at (copies_in self first count)) }
+    // Lists the hidden nodes of `count` ports from `first` on, in order, at a list's front, and answers how many.
+    // A list with its count: no heap.
+    fn copies_in(self, list: &mut [u32], first: usize, count: usize) -> usize
+        requires { (first + count ≤ port_slots) × (count ≤ length list.old) }
+        ensures { (result ≡ length (copies_in self first count)) × (list.new ≡ sets list.old 0 (copies_in self first count)) × (result ≤ count) }
     {
-        let mut place = at;
-        for k in 0..count {
-            let port = (first + k) as u32;
-            if marked(&self.multiport, first + k) {
-                if place < NODE_PORTS {
-                    list[place] = self.copy_node_of(port);
-                    place += 1;
-                }
+        let mut place: usize = 0;
+        for (k, split) in self.multiport[first..first + count].iter().enumerate() {
+            if *split {
+                list[place] = self.copy_node_of((first + k) as u32);
+                place += 1;
             }
         }
         place
     }
 
     // The hidden nodes of a list go, in order; the ports that they hung on are gone already.
+    #[tactic(auto, unfolding(crate::specs::HiddenNodes::remove_all), using(crate::specs::BlockSteps::remove_turn, crate::specs::BlockSteps::wf_lone_is))]
     fn remove_all(self, list: &[u32]) -> MultiPortGraph
         requires { Wf self.graph }
         ensures { result ≡ remove_all self list.now }
@@ -136,6 +123,7 @@ impl MultiPortGraph {
     }
 
     // A hidden node whose split port is gone already.
+    #[tactic(auto, unfolding(crate::specs::HiddenNodes::remove_lone))]
     fn remove_lone(self, node: u32) -> MultiPortGraph
         requires { Wf self.graph }
         ensures { result ≡ remove_lone self node }
@@ -158,40 +146,32 @@ impl MultiPortGraph {
             × (moves.new ≡ moves_told self node.0 incoming outgoing moves.old)
             × (set_numbers result.answer ≡ set_numbers (set_counts self node.0 incoming outgoing (length moves.old)).answer) }
     {
-        let counts = SideCounts {
-            incoming: incoming,
-            outgoing: outgoing,
-        };
-        match within(self.block(node), counts) {
+        match within(self.block(node), incoming, outgoing) {
             Ok(meta) => {
-                return self.resize(node, meta, counts, moves);
-            }
-            Err(refusal) => {
-                return PortsSet {
-                    graph: self,
-                    answer: Err(refusal),
+                let resize = Resize {
+                    meta: meta,
+                    incoming: incoming,
+                    outgoing: outgoing,
                 };
+                self.resize(node, resize, moves)
             }
+            Err(refusal) => PortsSet {
+                graph: self,
+                answer: Err(refusal),
+            },
         }
     }
 
     // Changes the number of ports of a block that is there, to counts within the limit.
-    fn resize(
-        self,
-        node: NodeIndex,
-        meta: NodeMeta,
-        counts: SideCounts,
-        moves: &mut [u32],
-    ) -> PortsSet
-        requires { MultiWf self × (counts.incoming + counts.outgoing ≤ node_ports) × (Ok meta ≡ block_found self node.0) }
-        ensures { (result ≡ set_counts self node.0 counts.incoming counts.outgoing (length moves.old))
-            × (moves.new ≡ moves_told self node.0 counts.incoming counts.outgoing moves.old) }
+    fn resize(self, node: NodeIndex, resize: Resize, moves: &mut [u32]) -> PortsSet
+        requires { MultiWf self × (resize.incoming + resize.outgoing ≤ node_ports) × (Ok resize.meta ≡ block_found self node.0) }
+        ensures { (result ≡ set_counts self node.0 resize.incoming resize.outgoing (length moves.old))
+            × (moves.new ≡ moves_told self node.0 resize.incoming resize.outgoing moves.old) }
     {
         let sized = self
             .graph
-            .set_num_ports(node, counts.incoming, counts.outgoing, moves);
-        let lower = sized.answer;
-        let answer = set_answer(lower);
+            .set_num_ports(node, resize.incoming, resize.outgoing, moves);
+        let answer = set_answer(sized.answer);
         let Ok(_) = answer else {
             return PortsSet {
                 graph: self,
@@ -199,44 +179,35 @@ impl MultiPortGraph {
             };
         };
         PortsSet {
-            graph: self.without_dropped(node, meta, counts, sized.graph),
+            graph: self.without_dropped(node, resize, sized.graph),
             answer: answer,
         }
     }
 
     // The graph over the lower graph in which a block has its new counts: the hidden nodes of the ports that are dropped go.
-    fn without_dropped(
-        self,
-        node: NodeIndex,
-        meta: NodeMeta,
-        counts: SideCounts,
-        after: PortGraph,
-    ) -> MultiPortGraph
-        requires { Wf self.graph × Wf after × BlockFits meta }
-        ensures { result ≡ remove_all (recounted self node.0 after) (copies_dropped self meta counts.incoming counts.outgoing) }
+    fn without_dropped(self, node: NodeIndex, resize: Resize, after: PortGraph) -> MultiPortGraph
+        requires { Wf self.graph × Wf after × BlockFits resize.meta }
+        ensures { result ≡ remove_all (recounted self node.0 after) (copies_dropped self resize.meta resize.incoming resize.outgoing) }
     {
         let mut list = [0u32; NODE_PORTS];
-        let count = self.copies_dropped(&mut list, meta, counts);
+        let count = self.copies_dropped(&mut list, resize);
         let loose = self.recounted(node.0, after);
         loose.remove_all(&list[..count])
     }
 
     // Lists the hidden nodes of the ports that are dropped, in the order in which these are reported, and answers how many.
-    fn copies_dropped(
-        self,
-        list: &mut [u32; NODE_PORTS],
-        meta: NodeMeta,
-        counts: SideCounts,
-    ) -> usize
-        requires { BlockFits meta }
-        ensures { (result ≡ length (copies_dropped self meta counts.incoming counts.outgoing)) × (list.new ≡ sets list.old 0 (copies_dropped self meta counts.incoming counts.outgoing)) }
+    fn copies_dropped(self, list: &mut [u32], resize: Resize) -> usize
+        requires { BlockFits resize.meta × (node_ports ≤ length list.old) }
+        ensures { (result ≡ length (copies_dropped self resize.meta resize.incoming resize.outgoing)) × (list.new ≡ sets list.old 0 (copies_dropped self resize.meta resize.incoming resize.outgoing)) }
     {
+        let meta = resize.meta;
         let first = wide(meta.first_port.0);
         let old_in = usize::from(meta.incoming);
         let old_out = usize::from(meta.outgoing);
-        let kept_in = old_in.min(counts.incoming);
-        let kept_out = old_out.min(counts.outgoing);
-        let middle = self.copies_in(list, 0, first + kept_in, old_in - kept_in);
-        self.copies_in(list, middle, first + old_in + kept_out, old_out - kept_out)
+        let kept_in = resize.kept_incoming();
+        let kept_out = resize.kept_outgoing();
+        let middle = self.copies_in(list, first + kept_in, old_in - kept_in);
+        let last = first + old_in + kept_out;
+        middle + self.copies_in(&mut list[middle..], last, old_out - kept_out)
     }
 }

@@ -11,7 +11,7 @@ ghost use Rattle.multiportgraph.specs.Answers.{add_numbers, link_numbers, cut_nu
 
 use crate::multiportgraph::{MultiPortGraph, NodeAdded, PortUnlinked, PortsLinked};
 use multi_tables::answers::{PortPlace, Refusal, SubportIndex};
-use multi_tables::marks::marked;
+use multi_tables::marks::flagged;
 use multi_tables::named::read_in;
 use multi_tables::reads::place_in;
 use multi_tables::seen::SidedPort;
@@ -28,11 +28,10 @@ pub fn added_as(
 ) -> Result<(NodeIndex, PortIndex), Refusal>
     ensures { result ≡ added_as answer }
 {
-    match answer {
-        Ok((node, first)) => Ok((node, first)),
-        Err(AddError::TooManyPorts) => Err(Refusal::TooManyPorts),
-        Err(AddError::NoRoom) => Err(Refusal::NoRoom),
-    }
+    answer.map_err(|error| match error {
+        AddError::TooManyPorts => Refusal::TooManyPorts,
+        AddError::NoRoom => Refusal::NoRoom,
+    })
 }
 
 impl MultiPortGraph {
@@ -40,9 +39,8 @@ impl MultiPortGraph {
     pub fn new(release: Release) -> Self
         ensures { result ≡ empty_graph release }
     {
-        let graph = PortGraph::new();
         MultiPortGraph {
-            graph: graph,
+            graph: PortGraph::new(),
             multiport: [false; PORT_SLOTS],
             copy_node: [false; NODE_SLOTS],
             copy_node_count: 0,
@@ -59,45 +57,44 @@ impl MultiPortGraph {
     }
 
     // Adds a block with a block of exactly incoming + outgoing slots.
+    #[tactic(auto, using(crate::specs::CallSteps::block_added))]
     pub fn add_node(mut self, incoming: usize, outgoing: usize) -> NodeAdded
         requires { MultiWf self }
         ensures { (result ≡ add_block self incoming outgoing) × (add_numbers result.answer ≡ add_numbers (add_block self incoming outgoing).answer) }
     {
         let added = self.graph.add_node(incoming, outgoing);
-        let answer = added.answer;
-        let after = added.graph;
-        self.graph = after;
+        self.graph = added.graph;
         NodeAdded {
             graph: self,
-            answer: added_as(answer),
+            answer: added_as(added.answer),
         }
     }
 
     // The number of blocks.
+    #[tactic(auto, unfolding(crate::specs::Calls::visible_nodes))]
     pub fn node_count(self) -> usize
         ensures { result ≡ visible_nodes self }
     {
-        let graph = self.graph;
-        graph.node_count().saturating_sub(self.copy_node_count)
+        self.graph.node_count().saturating_sub(self.copy_node_count)
     }
 
     // The number of ports of blocks.
+    #[tactic(auto, unfolding(crate::specs::Calls::visible_ports))]
     pub fn port_count(self) -> usize
         ensures { result ≡ visible_ports self }
     {
-        let graph = self.graph;
-        graph
+        self.graph
             .port_count()
             .saturating_sub(self.subport_count)
             .saturating_sub(self.copy_node_count)
     }
 
     // The number of wires.
+    #[tactic(auto, unfolding(crate::specs::Calls::visible_links))]
     pub fn link_count(self) -> usize
         ensures { result ≡ visible_links self }
     {
-        let graph = self.graph;
-        graph.link_count().saturating_sub(self.copy_node_count)
+        self.graph.link_count().saturating_sub(self.copy_node_count)
     }
 
     // The end that a subport means.
@@ -108,6 +105,7 @@ impl MultiPortGraph {
     }
 
     // What a subport is linked with, and where that stands.
+    #[tactic(auto, using(crate::specs::NamedLaws::read_done))]
     pub fn subport_link(
         self,
         subport: SubportIndex,
@@ -116,7 +114,7 @@ impl MultiPortGraph {
         ensures { (result ≡ subport_link self subport.port.0 subport.subport_offset) × (cut_numbers result ≡ cut_numbers (subport_link self subport.port.0 subport.subport_offset)) }
     {
         let inner = self.end_of(subport)?;
-        self.wire_tables().wire_in(inner)
+        Ok(self.wire_tables().wire_in(inner))
     }
 
     // The graph with the link of an inner port cut.
@@ -124,12 +122,12 @@ impl MultiPortGraph {
         ensures { result ≡ with_graph self (unlink_port self.graph inner.0).graph }
     {
         let unlinked = self.graph.unlink_port(inner);
-        let after = unlinked.graph;
-        self.graph = after;
+        self.graph = unlinked.graph;
         self
     }
 
     // Cuts the wire at a subport, if there is one, and answers the far end, and where it stood.
+    #[tactic(auto, using(crate::specs::LowerSteps::link_cut))]
     pub fn unlink_subport(self, subport: SubportIndex) -> PortUnlinked
         requires { MultiWf self }
         ensures { (result ≡ cut_sub self subport.port.0 subport.subport_offset) × (cut_numbers result.answer ≡ cut_numbers (cut_sub self subport.port.0 subport.subport_offset).answer) }
@@ -141,6 +139,7 @@ impl MultiPortGraph {
     }
 
     // The graph with the wire at a subport cut, if there is one.
+    #[tactic(auto, using(crate::specs::NamedLaws::cut_done, crate::specs::LowerSteps::end_cut_below))]
     fn without_end(self, subport: SubportIndex) -> MultiPortGraph
         requires { MultiWf self }
         ensures { result ≡ (cut_sub self subport.port.0 subport.subport_offset).graph }
@@ -153,37 +152,36 @@ impl MultiPortGraph {
 
     // Cuts every wire at a port. A split port loses its hidden node and answers itself, with its own place; another one answers the
     // inner far port, with the place of its visible end.
+    #[tactic(auto, unfolding(crate::specs::Calls::cut_port, crate::specs::Lookups::direction_of))]
     pub fn unlink_port(self, port: PortIndex) -> PortUnlinked
         requires { MultiWf self }
         ensures { (result ≡ cut_port self port.0) × (cut_numbers result.answer ≡ cut_numbers (cut_port self port.0).answer) }
     {
         match self.port_direction(port) {
-            Ok(side) => {
-                return PortUnlinked {
-                    graph: self.without_wires(SidedPort {
-                        port: port.0,
-                        side: side,
-                    }),
-                    answer: self.cut_answer(port),
-                };
-            }
-            Err(refusal) => {
-                return PortUnlinked {
-                    graph: self,
-                    answer: Err(refusal),
-                };
-            }
+            Ok(side) => PortUnlinked {
+                graph: self.without_wires(SidedPort {
+                    port: port.0,
+                    side: side,
+                }),
+                answer: self.cut_answer(port),
+            },
+            Err(refusal) => PortUnlinked {
+                graph: self,
+                answer: Err(refusal),
+            },
         }
     }
 
     // Whether a port is split.
-    fn is_split(self, port: u32) -> bool
-        ensures { result ≡ is_split self port }
+    #[tactic(auto, using(crate::specs::CodeFormSteps::split_told))]
+    pub(crate) fn is_split(&self, port: u32) -> bool
+        ensures { result ≡ is_split self.now port }
     {
-        marked(&self.multiport, wide(port))
+        flagged(&self.multiport, wide(port))
     }
 
     // The graph without the wires at a port of a block.
+    #[tactic(auto, unfolding(crate::specs::Calls::cut_port))]
     fn without_wires(self, port: SidedPort) -> MultiPortGraph
         requires { OnBlock self port.port port.side }
         ensures { result ≡ (cut_port self port.port).graph }
@@ -209,7 +207,7 @@ impl MultiPortGraph {
                 place,
             )));
         }
-        self.wire_tables().plain_in(port.0)
+        Ok(self.wire_tables().plain_in(port.0))
     }
 
     // Links two subports, and answers both ends as read.
@@ -223,11 +221,9 @@ impl MultiPortGraph {
             Ok((x, y)) => {
                 let first = read_in(&self.multiport, from);
                 let second = read_in(&self.multiport, to);
-                return self.link_ends(x, y, first, second);
+                self.link_ends(x, y, first, second)
             }
-            Err(refusal) => {
-                return self.link_refused(refusal);
-            }
+            Err(refusal) => self.link_refused(refusal),
         }
     }
 }

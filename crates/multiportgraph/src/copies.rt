@@ -11,11 +11,11 @@ ghost use Rattle.multiportgraph.specs.Presumed.{SplitPort};
 
 use crate::ends::port_of;
 use crate::multiportgraph::MultiPortGraph;
-use multi_tables::marks::{lay_marks, marked, put_flag, put_marks};
-use multi_tables::reads::{far_in, owner_in};
+use multi_tables::marks::{Recount, flagged, put_flag, put_marks};
 use multi_tables::seen::SidedPort;
 use port_tables::index::NodeIndex;
 use port_tables::numbers::wide;
+use port_tables::tables::{far_in, owner_in};
 use portgraph::portgraph::PortGraph;
 
 // The hidden node of a split port: its copy port, its number, and how many subports it has.
@@ -104,30 +104,33 @@ impl MultiPortGraph {
     }
 
     // A port of a block loses its hidden node, if it has one.
+    #[tactic(auto, using(crate::specs::CodeFormSteps::split_told, crate::specs::CopySteps::unsplit_split, crate::specs::CopySteps::unsplit_plain))]
     pub(crate) fn unsplit(self, port: u32) -> MultiPortGraph
         requires { Wf self.graph }
         ensures { result ≡ unsplit self port }
     {
-        if marked(&self.multiport, wide(port)) {
+        if self.is_split(port) {
             return self.remove_copy(port, self.copy_node_of(port));
         }
         self
     }
 
     // The graph with another lower graph, in which a node has other counts: the marks move with its ports.
+    #[tactic(auto, unfolding(crate::specs::HiddenNodes::recounted))]
     pub(crate) fn recounted(mut self, node: u32, graph: PortGraph) -> MultiPortGraph
         requires { Wf self.graph × Wf graph }
         ensures { result ≡ recounted self node graph }
     {
         let before = self.graph;
         self.graph = graph;
-        let Some(a) = before.node_meta_valid(NodeIndex(node)) else {
-            return self;
-        };
-        let Some(b) = graph.node_meta_valid(NodeIndex(node)) else {
-            return self;
-        };
-        lay_marks(&mut self.multiport, a, b);
+        let found = before.node_meta_valid(NodeIndex(node));
+        if let (Some(a), Some(b)) = (found, graph.node_meta_valid(NodeIndex(node))) {
+            let recount = Recount {
+                before: a,
+                after: b,
+            };
+            recount.lay_marks(&mut self.multiport);
+        }
         self
     }
 }

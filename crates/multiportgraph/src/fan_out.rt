@@ -8,18 +8,17 @@ ghost use Rattle.multi_tables.specs.FanOutScans.{fan_out_in};
 
 use crate::multiportgraph::MultiPortGraph;
 use multi_tables::answers::Refusal;
-use multi_tables::scans::capped;
 use multi_tables::seen::SidedPort;
 use multi_tables::wire_tables::WireTables;
 use port_tables::direction::Direction;
-use port_tables::index::{NodeIndex, PortIndex};
+use port_tables::index::{NodeIndex, PORT_SLOTS, PortIndex};
 use port_tables::sides::{Sides, ports_from, ports_to};
 
 // The sum of the fan-outs of the outgoing ports from `from` on and below `end`.
 fn fan_out_sum(tables: WireTables<'_>, from: usize, end: usize) -> usize
     ensures { result ≡ fan_out_in tables.entry.marks.now tables.entry.links.now tables.entry.owners.now from (min end port_slots - from) }
 {
-    let stop = capped(end);
+    let stop = end.min(PORT_SLOTS);
     let mut sum: usize = 0;
     for port in from..stop {
         sum += tables.wires_at(SidedPort {

@@ -1,8 +1,9 @@
 // Walks as cursors by value: a step takes the cursor and the present graph, and gives the item with the next cursor.
-// A cursor holds what it gave last: a node or port one higher than its number, 0 at the start, and an offset. These stay numbers: one past the last
-// item is where a walk goes on, also from the start.
+// A cursor holds what it gave last: a node or port one higher than its number, 0 at the start. These stay numbers: one past the last item is where a walk
+// goes on, also from the start. Where an offset goes with the port, both are a Held.
 // Cursors, no Iterator: the graph may change between two steps, so a walk borrows none.
-use port_tables::index::{NodeIndex, PortIndex};
+use multi_tables::scans::Held;
+use port_tables::index::{NodeIndex, PortIndex, PortRange};
 use port_tables::sides::Sides;
 
 // A walk over the blocks, by ascending number, from either end: the blocks given last from the front and from the back, each
@@ -33,8 +34,7 @@ pub struct NodePorts {
 pub struct NodeSubports {
     pub node: NodeIndex,
     pub sides: Sides,
-    pub held: u32,
-    pub offset: u16,
+    pub held: Held,
 }
 
 // A walk over the links of a port, from either end: the offsets given last from the front and from the back, each one higher,
@@ -46,15 +46,13 @@ pub struct PortLinks {
     pub back: u32,
 }
 
-// A walk over the links of a block; links to a port from `skip_from` on, `skip_to` excluded, are left out.
+// A walk over the links of a block; links to the ports of a range are left out.
 #[derive(Clone, Copy)]
 pub struct NodeLinks {
     pub node: NodeIndex,
     pub sides: Sides,
-    pub skip_from: u32,
-    pub skip_to: u32,
-    pub held: u32,
-    pub offset: u16,
+    pub skip: PortRange,
+    pub held: Held,
 }
 
 // A walk over the neighbours of a block, one for each link; with the flag, links to outgoing ports of the block itself are
@@ -64,8 +62,7 @@ pub struct Neighbours {
     pub node: NodeIndex,
     pub sides: Sides,
     pub ignore_self: bool,
-    pub held: u32,
-    pub offset: u16,
+    pub held: Held,
 }
 
 // A walk over the links from one block's outgoing side to another block.
@@ -73,13 +70,11 @@ pub struct Neighbours {
 pub struct NodeConnections {
     pub node: NodeIndex,
     pub target: NodeIndex,
-    pub held: u32,
-    pub offset: u16,
+    pub held: Held,
 }
 
 // A walk over all wires.
 #[derive(Clone, Copy)]
 pub struct Wires {
-    pub held: u32,
-    pub offset: u16,
+    pub held: Held,
 }

@@ -3,7 +3,7 @@ use port_tables::index::NodeIndex;
 use port_tables::node_entry::NodeMeta;
 
 // What the end that a link of this port takes needs.
-// Stays beside EndNeed: here the hidden node is read once and handed on.
+// Stays beside EndNeed: here the hidden node is read once, off the node table, which WireTables has not, and handed on.
 #[derive(Clone, Copy)]
 pub enum Need {
     // Nothing: the inner port and its offset.

@@ -84,10 +84,9 @@ impl LentGraph {
         ensures { (result.nodes.now ≡ self.now.ports.nodes) × (result.wires.links.now ≡ self.now.ports.links) × (result.wires.owners.now ≡ self.now.ports.owners)
             × (result.wires.marks.now ≡ self.now.marks) × (result.wires.flags.now ≡ self.now.flags) × (result.len ≡ self.now.ports.counts.node_len) }
     {
-        let tables = self.wire_tables();
         ListTables {
             nodes: &self.ports.nodes,
-            wires: tables,
+            wires: self.wire_tables(),
             len: self.ports.counts.node_len,
         }
     }
@@ -97,17 +96,13 @@ impl LentGraph {
         requires { MultiWf (graph_of self.now) }
         ensures { result ≡ graph_of self.now }
     {
-        let graph = self.ports.graph();
-        let multiport = self.marks;
-        let copy_node = self.flags;
-        let release = self.release;
         MultiPortGraph {
-            graph: graph,
-            multiport: multiport,
-            copy_node: copy_node,
+            graph: self.ports.graph(),
+            multiport: self.marks,
+            copy_node: self.flags,
             copy_node_count: self.copies,
             subport_count: self.subs,
-            release: release,
+            release: self.release,
         }
     }
 
@@ -116,15 +111,13 @@ impl LentGraph {
         ensures { (graph_of self.new ≡ graph)
             × Canonical self.new.ports.nodes }
     {
-        let lower = graph.graph;
-        self.ports.put(lower);
+        self.ports.put(graph.graph);
         let multiport = graph.multiport;
         self.marks = multiport;
         let copy_node = graph.copy_node;
         self.flags = copy_node;
         self.copies = graph.copy_node_count;
         self.subs = graph.subport_count;
-        let release = graph.release;
-        self.release = release;
+        self.release = graph.release;
     }
 }

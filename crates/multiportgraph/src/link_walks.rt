@@ -5,19 +5,33 @@ ghost use Rattle.multiportgraph.specs.Walks.{step_links, step_neighbours, step_c
 ghost use Rattle.multiportgraph.specs.WalkNumbers.{node_links_values, neighbours_values, node_connections_values};
 ghost use Rattle.multiportgraph.specs.WellFormed.{MultiWf};
 ghost use Rattle.multi_tables.specs.Scans.{first_found, link_port};
+ghost use Rattle.multiportgraph.specs.Wires.{held_at};
 ghost use Rattle.multiportgraph.specs.WalkScans.{block_left, self_filter};
 
 use crate::iter::{Neighbours, NodeConnections, NodeLinks};
 use crate::multiportgraph::MultiPortGraph;
-use multi_tables::answers::SubportLink;
-use multi_tables::reads::owner_in;
+use multi_tables::answers::{SubportIndex, SubportLink};
 use multi_tables::scans::{Held, LinkFilter};
 use port_tables::direction::Direction;
 use port_tables::index::NodeIndex;
 use port_tables::sides::{Sides, ports_from, ports_to};
+use port_tables::tables::owner_in;
+
+// What a cursor holds that gave this subport, or a link from it, last.
+pub(crate) fn held_at(subport: SubportIndex) -> Held
+    requires { subport.port.0 < port_slots }
+    ensures { result ≡ held_at subport }
+{
+    let port = subport.port;
+    Held {
+        port: port.0 + 1,
+        offset: subport.subport_offset,
+    }
+}
 
 impl MultiPortGraph {
     // The first link of a block beyond what a cursor holds; none where the block or the port held is gone or hidden.
+    #[tactic(auto, using(crate::specs::WalkSteps::both_refused, crate::specs::WalkSteps::both_found, crate::specs::LinkWalkSteps::left_gone))]
     fn next_of_block(
         self,
         node: NodeIndex,
@@ -28,19 +42,11 @@ impl MultiPortGraph {
         requires { MultiWf self }
         ensures { (result ≡ first_found (block_left self node.0 sides filter held.port held.offset)) × (link_port 0 result < port_slots) }
     {
-        let block = self.block(node);
-        let Ok(meta) = block else {
+        let meta = self.block(node).ok()?;
+        if !self.held_seen(held.port) {
             return None;
-        };
-        if self.held_seen(held.port) {
-            return self.wire_tables().next_beyond(
-                filter,
-                ports_from(meta, sides),
-                ports_to(meta, sides),
-                held,
-            );
         }
-        None
+        self.wire_tables().next_beyond(filter, ports_from(meta, sides), ports_to(meta, sides), held)
     }
 }
 
@@ -49,32 +55,15 @@ impl NodeLinks {
         requires { MultiWf graph }
         ensures { (result ≡ step_links graph self) × (node_links_values result ≡ node_links_values (step_links graph self)) }
     {
-        let node = self.node;
-        let sides = self.sides;
-        let filter = LinkFilter::Skip(self.skip_from, self.skip_to);
-        let held = Held {
-            port: self.held,
-            offset: self.offset,
-        };
-        let found = graph.next_of_block(node, sides, filter, held);
-        match found {
-            None => None,
-            Some(link) => {
-                let from = link.from;
-                let port = from.port;
-                Some((
-                    link,
-                    NodeLinks {
-                        node: node,
-                        sides: sides,
-                        skip_from: self.skip_from,
-                        skip_to: self.skip_to,
-                        held: port.0 + 1,
-                        offset: from.subport_offset,
-                    },
-                ))
-            }
-        }
+        let filter = LinkFilter::Skip(self.skip);
+        let link = graph.next_of_block(self.node, self.sides, filter, self.held)?;
+        Some((
+            link,
+            NodeLinks {
+                held: held_at(link.from),
+                ..self
+            },
+        ))
     }
 }
 
@@ -90,72 +79,43 @@ fn self_filter(node: NodeIndex, ignore_self: bool) -> LinkFilter
 }
 
 impl Neighbours {
+    #[tactic(auto, using(crate::specs::LinkWalkSteps::neighbours_item_lem, crate::specs::LinkWalkSteps::neighbours_none))]
     pub fn step(self, graph: MultiPortGraph) -> Option<(NodeIndex, Neighbours)>
         requires { MultiWf graph }
         ensures { (result ≡ step_neighbours graph self) × (neighbours_values result ≡ neighbours_values (step_neighbours graph self)) }
     {
-        let node = self.node;
-        let sides = self.sides;
-        let filter = self_filter(node, self.ignore_self);
-        let held = Held {
-            port: self.held,
-            offset: self.offset,
-        };
-        let found = graph.next_of_block(node, sides, filter, held);
-        match found {
-            None => None,
-            Some(link) => {
-                let from = link.from;
-                let port = from.port;
-                let to = link.to;
-                let far = to.port;
-                Some((
-                    NodeIndex(owner_in(&graph.graph.port_meta, far.0)),
-                    Neighbours {
-                        node: node,
-                        sides: sides,
-                        ignore_self: self.ignore_self,
-                        held: port.0 + 1,
-                        offset: from.subport_offset,
-                    },
-                ))
-            }
-        }
+        let filter = self_filter(self.node, self.ignore_self);
+        let link = graph.next_of_block(self.node, self.sides, filter, self.held)?;
+        let to = link.to;
+        let far = to.port;
+        Some((
+            NodeIndex(owner_in(&graph.graph.port_meta, far.0)),
+            Neighbours {
+                held: held_at(link.from),
+                ..self
+            },
+        ))
     }
 }
 
 impl NodeConnections {
+    #[tactic(auto, using(crate::specs::LinkWalkSteps::connections_gone, crate::specs::LinkWalkSteps::connections_none))]
     pub fn step(self, graph: MultiPortGraph) -> Option<(SubportLink, NodeConnections)>
         requires { MultiWf graph }
         ensures { (result ≡ step_connections graph self) × (node_connections_values result ≡ node_connections_values (step_connections graph self)) }
     {
-        let node = self.node;
-        let target = self.target;
-        if graph.contains_node(target) {
-            let side = Sides::One(Direction::Outgoing);
-            let filter = LinkFilter::To(target);
-            let held = Held {
-                port: self.held,
-                offset: self.offset,
-            };
-            let found = graph.next_of_block(node, side, filter, held);
-            return match found {
-                None => None,
-                Some(link) => {
-                    let from = link.from;
-                    let port = from.port;
-                    Some((
-                        link,
-                        NodeConnections {
-                            node: node,
-                            target: target,
-                            held: port.0 + 1,
-                            offset: from.subport_offset,
-                        },
-                    ))
-                }
-            };
+        if !graph.contains_node(self.target) {
+            return None;
         }
-        None
+        let side = Sides::One(Direction::Outgoing);
+        let filter = LinkFilter::To(self.target);
+        let link = graph.next_of_block(self.node, side, filter, self.held)?;
+        Some((
+            link,
+            NodeConnections {
+                held: held_at(link.from),
+                ..self
+            },
+        ))
     }
 }

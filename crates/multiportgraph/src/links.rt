@@ -46,10 +46,8 @@ impl MultiPortGraph {
         requires { MultiWf self }
         ensures { result ≡ record { graph = with_graph self (link_ports self.graph x y).graph; answer = Ok (from, to) } }
     {
-        let graph = self.graph;
-        let linked = graph.link_ports(PortIndex(x), PortIndex(y));
-        let after = linked.graph;
-        self.graph = after;
+        let linked = self.graph.link_ports(PortIndex(x), PortIndex(y));
+        self.graph = linked.graph;
         PortsLinked {
             graph: self,
             answer: Ok((from, to)),
@@ -131,19 +129,15 @@ impl MultiPortGraph {
                     port: port_b,
                     subport_offset: r,
                 };
-                return self.link_ends(x, y, from, to);
+                self.link_ends(x, y, from, to)
             }
-            Err(refusal) => {
-                return self.link_refused(refusal);
-            }
+            Err(refusal) => self.link_refused(refusal),
             Ok(LinkNeed::First(d)) => {
-                return self.link_first(
-                    SidedPort {
-                        port: port_a.0,
-                        side: d,
-                    },
-                    port_b,
-                );
+                let first = SidedPort {
+                    port: port_a.0,
+                    side: d,
+                };
+                self.link_first(first, port_b)
             }
             Ok(LinkNeed::Both(d, e)) => {
                 let first = SidedPort {
@@ -154,7 +148,7 @@ impl MultiPortGraph {
                     port: port_b.0,
                     side: e,
                 };
-                return self.link_both(first, second);
+                self.link_both(first, second)
             }
         }
     }
@@ -166,12 +160,8 @@ impl MultiPortGraph {
     {
         let release = self.release;
         match self.wire_tables().pair_named_under(release, port_a, port_b) {
-            Ok(()) => {
-                return self.link_ports(port_a, port_b);
-            }
-            Err(refusal) => {
-                return self.link_refused(refusal);
-            }
+            Ok(()) => self.link_ports(port_a, port_b),
+            Err(refusal) => self.link_refused(refusal),
         }
     }
 }

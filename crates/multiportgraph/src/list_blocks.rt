@@ -9,13 +9,12 @@ ghost use Rattle.multiportgraph.specs.Listed.{blocks_listed, list_after, list_an
 ghost use Rattle.multiportgraph.specs.ListScans.{port_of_meta, node_block, table_blocks};
 
 use crate::lent_graph::LentGraph;
-use crate::list_ends::{ListTables, TooShort, put_four};
-use multi_tables::marks::flagged;
-use port_tables::lent::meta_in;
+use crate::list_ends::{ListTables, TooShort, put_front};
 use port_tables::node_entry::NodeMeta;
 use port_tables::numbers::wide;
 
 // The first port of a block; 0 for a block without ports.
+#[tactic(auto, unfolding(crate::specs::ListScans::port_of_meta))]
 fn port_of_meta(meta: NodeMeta) -> u32
     ensures { result ≡ port_of_meta meta }
 {
@@ -27,25 +26,22 @@ fn port_of_meta(meta: NodeMeta) -> u32
 }
 
 impl ListTables<'_> {
-    // Lists the block of a node slot, if it has one; answers the place after it.
-    fn list_block(self, list: &mut [u32], place: usize, node: u32) -> usize
-        requires { place + length (node_block self.nodes.now self.wires.flags.now node) ≤ length list.old }
-        ensures { (result ≡ place + length (node_block self.entry.nodes.now self.entry.wires.flags.now node))
-            × (list.new ≡ sets list.old place (node_block self.entry.nodes.now self.entry.wires.flags.now node)) }
+    // Lists the block of a node slot at a list's front, if it has one; answers how many numbers that took.
+    #[tactic(auto, unfolding(crate::specs::ListScans::node_block), using(crate::specs::ListSteps::block_none, crate::specs::ListSteps::block_some))]
+    fn list_block(self, list: &mut [u32], node: u32) -> usize
+        requires { length (node_block self.nodes.now self.wires.flags.now node) ≤ length list.old }
+        ensures { (result ≡ length (node_block self.entry.nodes.now self.entry.wires.flags.now node))
+            × (list.new ≡ sets list.old 0 (node_block self.entry.nodes.now self.entry.wires.flags.now node)) }
     {
-        if flagged(self.wires.flags, wide(node)) {
-            return place;
-        }
-        let Some(meta) = meta_in(self.nodes, node) else {
-            return place;
+        let Some(meta) = self.block(node) else {
+            return 0;
         };
         let first = port_of_meta(meta);
-        put_four(
+        put_front(
             list,
-            place,
-            [node, meta.incoming as u32, meta.outgoing as u32, first],
+            &[node, meta.incoming as u32, meta.outgoing as u32, first],
         );
-        place + 4
+        4
     }
 
     // Lists the blocks of all used node slots, from the list's start on.
@@ -55,7 +51,7 @@ impl ListTables<'_> {
     {
         let mut next: usize = 0;
         for node in 0..self.len {
-            next = self.list_block(list, next, node as u32);
+            next += self.list_block(&mut list[next..], node as u32);
         }
     }
 

@@ -2,13 +2,16 @@
 ghost use Rattle.std.specs.Prelude.{◌≡◌, ◌+◌, ◌-◌, ◌≤◌, length};
 ghost use Rattle.std.proofs.lemmas.List.Edits.{sets};
 ghost use Rattle.port_tables.specs.NodeWords.{meta_in};
-ghost use Rattle.multiportgraph.specs.ListScans.{first_of_meta, in_end, far_end};
+ghost use Rattle.port_tables.specs.Limits.{node_slots};
+ghost use Rattle.multi_tables.specs.Forms.{flag_at};
+ghost use Rattle.multiportgraph.specs.ListScans.{shown_meta, first_of_meta, in_end, far_end};
 
 use multi_tables::marks::flagged;
-use multi_tables::reads::{far_in, owner_in};
 use multi_tables::wire_tables::WireTables;
 use port_tables::lent::{NODE_WORDS, meta_in};
+use port_tables::node_entry::NodeMeta;
 use port_tables::numbers::wide;
+use port_tables::tables::{far_in, owner_in};
 
 // The list is too short and stayed as it was: it must have so many numbers.
 #[derive(Clone, Copy)]
@@ -36,14 +39,22 @@ pub struct WireEnd {
 fn first_of(nodes: &[u32; NODE_WORDS], node: u32) -> u32
     ensures { result ≡ first_of_meta (meta_in nodes.now node) }
 {
-    let Some(meta) = meta_in(nodes, node) else {
-        return 0;
-    };
-    meta.first_port.0
+    meta_in(nodes, node).map_or(0, |meta| meta.first_port.0)
 }
 
 impl ListTables<'_> {
+    // The meta data of a block; none for a hidden node and for no node.
+    pub(crate) fn block(self, node: u32) -> Option<NodeMeta>
+        ensures { result ≡ shown_meta (flag_at self.entry.wires.flags.now node_slots node) (meta_in self.entry.nodes.now node) }
+    {
+        if flagged(self.wires.flags, wide(node)) {
+            return None;
+        }
+        meta_in(self.nodes, node)
+    }
+
     // An incoming port of a block, with an offset.
+    #[tactic(auto, unfolding(crate::specs::ListScans::in_end))]
     fn in_end(self, port: u32, offset: u32) -> WireEnd
         ensures { result ≡ in_end self.entry.nodes.now self.entry.wires.owners.now port offset }
     {
@@ -57,26 +68,27 @@ impl ListTables<'_> {
     }
 
     // The incoming end of a wire, by its inner port.
+    #[tactic(auto, unfolding(crate::specs::ListScans::far_end))]
     pub(crate) fn far_end(self, inner: u32) -> WireEnd
         ensures { result ≡ far_end self.entry.nodes.now self.entry.wires.links.now self.entry.wires.owners.now self.entry.wires.flags.now inner }
     {
         let node = owner_in(self.wires.owners, inner);
-        if flagged(self.wires.flags, wide(node)) {
-            let Some(meta) = meta_in(self.nodes, node) else {
-                return self.in_end(inner, 0);
-            };
-            let first = meta.first_port.0;
-            let main = far_in(self.wires.links, wide(first) + usize::from(meta.incoming));
-            return self.in_end(main, inner.saturating_sub(first));
+        match meta_in(self.nodes, node) {
+            Some(meta) if flagged(self.wires.flags, wide(node)) => {
+                let first = meta.first_port.0;
+                let main = far_in(self.wires.links, wide(first) + usize::from(meta.incoming));
+                self.in_end(main, inner.saturating_sub(first))
+            }
+            _ => self.in_end(inner, 0),
         }
-        self.in_end(inner, 0)
     }
 }
 
-// Writes four numbers in a row.
-pub(crate) fn put_four(list: &mut [u32], place: usize, numbers: [u32; 4])
-    requires { place + 4 ≤ length list.old }
-    ensures { list.new ≡ sets list.old place numbers }
+// Writes numbers at the front of a list.
+#[tactic(auto, using(crate::specs::ListSteps::front_laid))]
+pub(crate) fn put_front(list: &mut [u32], numbers: &[u32])
+    requires { length numbers.now ≤ length list.old }
+    ensures { list.new ≡ sets list.old 0 numbers.now }
 {
-    list[place..place + 4].copy_from_slice(&numbers);
+    list[..numbers.len()].copy_from_slice(numbers);
 }

@@ -10,106 +10,111 @@ ghost use Rattle.multiportgraph.specs.Listed.{wires_listed, list_after, list_ans
 ghost use Rattle.multiportgraph.specs.ListScans.{slot_wire, split_wires, port_wires, side_wires, node_wires, table_wires, AllFit};
 
 use crate::lent_graph::LentGraph;
-use crate::list_ends::{ListTables, TooShort, WireEnd, put_four};
-use multi_tables::marks::{flagged, marked};
-use multi_tables::reads::{far_in, owner_in};
+use crate::list_ends::{ListTables, TooShort, WireEnd, put_front};
+use multi_tables::marks::flagged;
 use port_tables::lent::meta_in;
 use port_tables::node_entry::NodeMeta;
 use port_tables::numbers::wide;
-use port_tables::tables::at;
+use port_tables::tables::{at, far_in, owner_in};
 
 impl ListTables<'_> {
-    // Lists the wire at a slot of an outgoing end, if there is one; answers the place after it.
-    fn list_slot(self, list: &mut [u32], place: usize, from: WireEnd, slot: usize) -> usize
-        requires { place + length (slot_wire self.nodes.now self.wires.links.now self.wires.owners.now self.wires.flags.now from slot) ≤ length list.old }
-        ensures { (result ≡ place + length (slot_wire self.entry.nodes.now self.entry.wires.links.now self.entry.wires.owners.now self.entry.wires.flags.now from slot))
-            × (list.new ≡ sets list.old place (slot_wire self.entry.nodes.now self.entry.wires.links.now self.entry.wires.owners.now self.entry.wires.flags.now from slot)) }
+    // Lists the wire at a slot of an outgoing end at a list's front, if there is one; answers how many numbers that took.
+    #[tactic(auto, unfolding(crate::specs::ListScans::slot_wire, port_tables::specs::Tables::far_in))]
+    fn list_slot(self, list: &mut [u32], from: WireEnd, slot: usize) -> usize
+        requires { length (slot_wire self.nodes.now self.wires.links.now self.wires.owners.now self.wires.flags.now from slot) ≤ length list.old }
+        ensures { (result ≡ length (slot_wire self.entry.nodes.now self.entry.wires.links.now self.entry.wires.owners.now self.entry.wires.flags.now from slot))
+            × (list.new ≡ sets list.old 0 (slot_wire self.entry.nodes.now self.entry.wires.links.now self.entry.wires.owners.now self.entry.wires.flags.now from slot)) }
     {
         let far = at(self.wires.links, slot);
         if far == 0 {
-            return place;
+            return 0;
         }
         let to = self.far_end(far - 1);
-        put_four(
+        put_front(
             list,
-            place,
-            [from.port, from.offset, from.node, from.position],
+            &[
+                from.port,
+                from.offset,
+                from.node,
+                from.position,
+                to.port,
+                to.offset,
+                to.node,
+                to.position,
+            ],
         );
-        put_four(list, place + 4, [to.port, to.offset, to.node, to.position]);
-        place + 8
+        8
     }
 
-    // Lists the wires of a split port, by its hidden node; answers the place after the last.
-    fn list_split(self, list: &mut [u32], place: usize, port: WireEnd, copy: NodeMeta) -> usize
-        requires { place + length (split_wires self.nodes.now self.wires.links.now self.wires.owners.now self.wires.flags.now port.port port.node port.position copy) ≤ length list.old }
-        ensures { (result ≡ place + length (split_wires self.entry.nodes.now self.entry.wires.links.now self.entry.wires.owners.now self.entry.wires.flags.now port.port port.node port.position copy))
-            × (list.new ≡ sets list.old place (split_wires self.entry.nodes.now self.entry.wires.links.now self.entry.wires.owners.now self.entry.wires.flags.now port.port port.node port.position copy)) }
+    // Lists the wires of a split port, by its hidden node; answers how many numbers that took.
+    fn list_split(self, list: &mut [u32], port: WireEnd, copy: NodeMeta) -> usize
+        requires { length (split_wires self.nodes.now self.wires.links.now self.wires.owners.now self.wires.flags.now port.port port.node port.position copy) ≤ length list.old }
+        ensures { (result ≡ length (split_wires self.entry.nodes.now self.entry.wires.links.now self.entry.wires.owners.now self.entry.wires.flags.now port.port port.node port.position copy))
+            × (list.new ≡ sets list.old 0 (split_wires self.entry.nodes.now self.entry.wires.links.now self.entry.wires.owners.now self.entry.wires.flags.now port.port port.node port.position copy)) }
     {
         let first = wide(copy.first_port.0) + usize::from(copy.incoming);
         let count = usize::from(copy.outgoing);
-        let mut next = place;
+        let mut next: usize = 0;
         for offset in 0..count {
             let from = WireEnd {
-                port: port.port,
                 offset: offset as u32,
-                node: port.node,
-                position: port.position,
+                ..port
             };
-            next = self.list_slot(list, next, from, first + offset);
+            next += self.list_slot(&mut list[next..], from, first + offset);
         }
         next
     }
 
-    // Lists the wires of an outgoing port; answers the place after the last. Port, node and position stay three: an end of a wire would have an offset too.
-    fn list_port(self, list: &mut [u32], place: usize, port: u32, node: u32, position: u32) -> usize
-        requires { place + length (port_wires self.nodes.now self.wires.links.now self.wires.owners.now self.wires.marks.now self.wires.flags.now port node position) ≤ length list.old }
-        ensures { (result ≡ place + length (port_wires self.entry.nodes.now self.entry.wires.links.now self.entry.wires.owners.now self.entry.wires.marks.now self.entry.wires.flags.now port node position))
-            × (list.new ≡ sets list.old place (port_wires self.entry.nodes.now self.entry.wires.links.now self.entry.wires.owners.now self.entry.wires.marks.now self.entry.wires.flags.now port node position)) }
+    // Lists the wires of an outgoing port; answers how many numbers that took.
+    #[tactic(auto, unfolding(crate::specs::ListScans::port_wires))]
+    fn list_port(self, list: &mut [u32], from: WireEnd) -> usize
+        requires { (from.offset ≡ 0) × (length (port_wires self.nodes.now self.wires.links.now self.wires.owners.now self.wires.marks.now self.wires.flags.now from.port from.node from.position) ≤ length list.old) }
+        ensures { (result ≡ length (port_wires self.entry.nodes.now self.entry.wires.links.now self.entry.wires.owners.now self.entry.wires.marks.now self.entry.wires.flags.now from.port from.node from.position))
+            × (list.new ≡ sets list.old 0 (port_wires self.entry.nodes.now self.entry.wires.links.now self.entry.wires.owners.now self.entry.wires.marks.now self.entry.wires.flags.now from.port from.node from.position)) }
     {
-        let from = WireEnd {
-            port: port,
-            offset: 0,
-            node: node,
-            position: position,
-        };
-        if marked(self.wires.marks, wide(port)) {
-            let hidden = owner_in(self.wires.owners, far_in(self.wires.links, wide(port)));
+        let port = wide(from.port);
+        if flagged(self.wires.marks, port) {
+            let hidden = owner_in(self.wires.owners, far_in(self.wires.links, port));
             let Some(copy) = meta_in(self.nodes, hidden) else {
-                return place;
+                return 0;
             };
-            return self.list_split(list, place, from, copy);
+            return self.list_split(list, from, copy);
         }
-        self.list_slot(list, place, from, wide(port))
+        self.list_slot(list, from, port)
     }
 
-    // Lists the wires of a node's outgoing ports; answers the place after the last.
-    fn list_side(self, list: &mut [u32], place: usize, node: u32, meta: NodeMeta) -> usize
-        requires { BlockFits meta × (place + length (side_wires self.nodes.now self.wires.links.now self.wires.owners.now self.wires.marks.now self.wires.flags.now node meta) ≤ length list.old) }
-        ensures { (result ≡ place + length (side_wires self.entry.nodes.now self.entry.wires.links.now self.entry.wires.owners.now self.entry.wires.marks.now self.entry.wires.flags.now node meta))
-            × (list.new ≡ sets list.old place (side_wires self.entry.nodes.now self.entry.wires.links.now self.entry.wires.owners.now self.entry.wires.marks.now self.entry.wires.flags.now node meta)) }
+    // Lists the wires of a node's outgoing ports; answers how many numbers that took.
+    fn list_side(self, list: &mut [u32], node: u32, meta: NodeMeta) -> usize
+        requires { BlockFits meta × (length (side_wires self.nodes.now self.wires.links.now self.wires.owners.now self.wires.marks.now self.wires.flags.now node meta) ≤ length list.old) }
+        ensures { (result ≡ length (side_wires self.entry.nodes.now self.entry.wires.links.now self.entry.wires.owners.now self.entry.wires.marks.now self.entry.wires.flags.now node meta))
+            × (list.new ≡ sets list.old 0 (side_wires self.entry.nodes.now self.entry.wires.links.now self.entry.wires.owners.now self.entry.wires.marks.now self.entry.wires.flags.now node meta)) }
     {
         let first = wide(meta.first_port.0) + usize::from(meta.incoming);
         let count = usize::from(meta.outgoing);
-        let mut next = place;
+        let mut next: usize = 0;
         for position in 0..count {
-            next = self.list_port(list, next, (first + position) as u32, node, position as u32);
+            let from = WireEnd {
+                port: (first + position) as u32,
+                offset: 0,
+                node: node,
+                position: position as u32,
+            };
+            next += self.list_port(&mut list[next..], from);
         }
         next
     }
 
-    // Lists the wires of a node slot, if it has a block; answers the place after the last.
-    fn list_node(self, list: &mut [u32], place: usize, node: u32) -> usize
-        requires { AllFit self.nodes.now × (place + length (node_wires self.nodes.now self.wires.links.now self.wires.owners.now self.wires.marks.now self.wires.flags.now node) ≤ length list.old) }
-        ensures { (result ≡ place + length (node_wires self.entry.nodes.now self.entry.wires.links.now self.entry.wires.owners.now self.entry.wires.marks.now self.entry.wires.flags.now node))
-            × (list.new ≡ sets list.old place (node_wires self.entry.nodes.now self.entry.wires.links.now self.entry.wires.owners.now self.entry.wires.marks.now self.entry.wires.flags.now node)) }
+    // Lists the wires of a node slot, if it has a block; answers how many numbers that took.
+    #[tactic(auto, unfolding(crate::specs::ListScans::node_wires), using(crate::specs::ListSteps::block_none, crate::specs::ListSteps::block_some))]
+    fn list_node(self, list: &mut [u32], node: u32) -> usize
+        requires { AllFit self.nodes.now × (length (node_wires self.nodes.now self.wires.links.now self.wires.owners.now self.wires.marks.now self.wires.flags.now node) ≤ length list.old) }
+        ensures { (result ≡ length (node_wires self.entry.nodes.now self.entry.wires.links.now self.entry.wires.owners.now self.entry.wires.marks.now self.entry.wires.flags.now node))
+            × (list.new ≡ sets list.old 0 (node_wires self.entry.nodes.now self.entry.wires.links.now self.entry.wires.owners.now self.entry.wires.marks.now self.entry.wires.flags.now node)) }
     {
-        if flagged(self.wires.flags, wide(node)) {
-            return place;
-        }
-        let Some(meta) = meta_in(self.nodes, node) else {
-            return place;
+        let Some(meta) = self.block(node) else {
+            return 0;
         };
-        self.list_side(list, place, node, meta)
+        self.list_side(list, node, meta)
     }
 
     // Lists the wires of all used node slots, from the list's start on.
@@ -119,7 +124,7 @@ impl ListTables<'_> {
     {
         let mut next: usize = 0;
         for node in 0..self.len {
-            next = self.list_node(list, next, node as u32);
+            next += self.list_node(&mut list[next..], node as u32);
         }
     }
 

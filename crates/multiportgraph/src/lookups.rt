@@ -17,13 +17,12 @@ use port_tables::numbers::wide;
 
 impl MultiPortGraph {
     // A block's meta data, or why the node is refused.
+    #[tactic(auto, unfolding(crate::specs::CodeForms::block_found), using(crate::specs::CodeFormSteps::hidden_told))]
     pub(crate) fn block(self, node: NodeIndex) -> Result<NodeMeta, Refusal>
         ensures { result ≡ block_found self node.0 }
     {
-        let graph = self.graph;
-        let Some(meta) = graph.node_meta_valid(node) else {
-            return Err(Refusal::UnknownNode);
-        };
+        let found = self.graph.node_meta_valid(node);
+        let meta = found.ok_or(Refusal::UnknownNode)?;
         if flagged(&self.copy_node, wide(node.0)) {
             return Err(Refusal::HiddenNode);
         }
@@ -58,10 +57,9 @@ impl MultiPortGraph {
         ensures { (result ≡ offset_of self port.0) × (offset_numbers result ≡ offset_numbers (offset_of self port.0)) }
     {
         let (_, direction) = self.block_port(port)?;
-        let graph = self.graph;
         Ok(PortOffset {
             direction: direction,
-            index: position_of(graph, port.0),
+            index: position_of(self.graph, port.0),
         })
     }
 
@@ -95,6 +93,7 @@ impl MultiPortGraph {
     }
 
     // Whether a node is a block.
+    #[tactic(auto, using(crate::specs::LookupSteps::block_at))]
     pub fn contains_node(self, node: NodeIndex) -> bool
         ensures { result ≡ is_block self node.0 }
     {
@@ -109,10 +108,10 @@ impl MultiPortGraph {
     }
 
     // Whether there is no node and no port.
+    #[tactic(auto, unfolding(crate::specs::Lookups::empty_of))]
     pub fn is_empty(self) -> bool
         ensures { result ≡ empty_of self }
     {
-        let graph = self.graph;
-        graph.is_empty()
+        self.graph.is_empty()
     }
 }

@@ -37,37 +37,43 @@ impl MultiPortGraph {
     }
 }
 
-// By value with its answer, the form asked for (docs/DECISIONS.md). Stays a struct of its own: definitions and theorems name it.
+// By value with its answer, the form asked for (docs/DECISIONS.md). Each call has a struct of its own: one for all would be written out with its answer,
+// as Answered<Option<(SubportIndex, PortPlace)>>, in every signature and definition, and is no plainer.
 #[derive(Clone, Copy)]
 pub struct NodeAdded {
     pub graph: MultiPortGraph,
     pub answer: Result<(NodeIndex, PortIndex), Refusal>,
 }
 
+// A struct of its own, as NodeAdded.
 #[derive(Clone, Copy)]
 pub struct NodeRemoved {
     pub graph: MultiPortGraph,
     pub answer: Result<(), Refusal>,
 }
 
+// A struct of its own, as NodeAdded.
 #[derive(Clone, Copy)]
 pub struct PortsSet {
     pub graph: MultiPortGraph,
     pub answer: Result<usize, Refusal>,
 }
 
+// A struct of its own, as NodeAdded.
 #[derive(Clone, Copy)]
 pub struct PortsLinked {
     pub graph: MultiPortGraph,
     pub answer: Result<(SubportIndex, SubportIndex), Refusal>,
 }
 
+// A struct of its own, as NodeAdded.
 #[derive(Clone, Copy)]
 pub struct PortUnlinked {
     pub graph: MultiPortGraph,
     pub answer: Result<Option<(SubportIndex, PortPlace)>, Refusal>,
 }
 
+// A struct of its own, as NodeAdded.
 #[derive(Clone, Copy)]
 pub struct PortTidied {
     pub graph: MultiPortGraph,

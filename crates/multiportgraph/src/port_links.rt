@@ -1,6 +1,5 @@
 // The walk over the links of a port, from either end.
-ghost use Rattle.std.specs.Prelude.{◌≡◌, ◌-◌, ◌≤◌};
-ghost use Rattle.port_tables.specs.Limits.{port_slots};
+ghost use Rattle.std.specs.Prelude.{◌≡◌, ◌-◌};
 ghost use Rattle.multiportgraph.specs.Walks.{step_front, step_back};
 ghost use Rattle.multiportgraph.specs.WalkNumbers.{port_links_values};
 ghost use Rattle.multiportgraph.specs.WellFormed.{MultiWf};
@@ -18,8 +17,8 @@ use port_tables::direction::Direction;
 use port_tables::numbers::wide;
 
 // The last link at these ends.
+#[tactic(auto, using(crate::specs::LinkWalkSteps::back_link, crate::specs::LinkWalkSteps::back_link_turn, crate::specs::LinkWalkSteps::back_link_none))]
 fn scan_back(tables: WireTables<'_>, ends: PortEnds) -> Option<SubportLink>
-    requires { (ends.first ≤ port_slots) × (ends.end ≤ port_slots) }
     ensures { result ≡ last_found (links_in tables.entry.links.now tables.entry.owners.now tables.entry.flags.now ends.port ends.first ends.from (ends.end - ends.from)) }
 {
     for offset in (ends.from..ends.end).rev() {
@@ -39,12 +38,10 @@ fn scan_back(tables: WireTables<'_>, ends: PortEnds) -> Option<SubportLink>
 impl PortLinks {
     // The ends between the offsets given from the front and from the back.
     fn ends_left(self, tables: WireTables<'_>, direction: Direction) -> PortEnds
-        ensures { (result ≡ record {
-          port = self.port.0;
-          first = span_first tables.entry.marks.now tables.entry.links.now tables.entry.owners.now self.port.0 direction;
-          from = self.front;
-          end = end_before self.back (span_count tables.entry.marks.now tables.entry.links.now tables.entry.owners.now self.port.0 direction);
-        }) × (result.first ≤ port_slots) × (result.end ≤ port_slots) }
+        ensures { (result.port ≡ self.port.0)
+            × (result.first ≡ span_first tables.entry.marks.now tables.entry.links.now tables.entry.owners.now self.port.0 direction)
+            × (result.from ≡ self.front)
+            × (result.end ≡ end_before self.back (span_count tables.entry.marks.now tables.entry.links.now tables.entry.owners.now self.port.0 direction)) }
     {
         let port = self.port;
         let sided = SidedPort {
@@ -61,6 +58,7 @@ impl PortLinks {
     }
 
     // The first link at them.
+    #[tactic(auto, unfolding(crate::specs::WalkScans::left_in), using(crate::specs::LinkWalkSteps::left_first))]
     fn first_left(self, tables: WireTables<'_>, direction: Direction) -> Option<SubportLink>
         ensures { result ≡ first_found (left_in tables.entry.marks.now tables.entry.links.now tables.entry.owners.now tables.entry.flags.now self.port.0 direction self.front self.back) }
     {
@@ -68,6 +66,7 @@ impl PortLinks {
     }
 
     // The last of them.
+    #[tactic(auto, unfolding(crate::specs::WalkScans::left_in))]
     fn last_left(self, tables: WireTables<'_>, direction: Direction) -> Option<SubportLink>
         ensures { result ≡ last_found (left_in tables.entry.marks.now tables.entry.links.now tables.entry.owners.now tables.entry.flags.now self.port.0 direction self.front self.back) }
     {
@@ -80,20 +79,14 @@ impl PortLinks {
         requires { MultiWf graph }
         ensures { (result ≡ step_front graph self) × (port_links_values result ≡ port_links_values (step_front graph self)) }
     {
-        let port = self.port;
-        let Ok((_, direction)) = graph.block_port(port) else {
-            return None;
-        };
-        let Some(link) = self.first_left(graph.wire_tables(), direction) else {
-            return None;
-        };
+        let (_, direction) = graph.block_port(self.port).ok()?;
+        let link = self.first_left(graph.wire_tables(), direction)?;
         let from = link.from;
         Some((
             link,
             PortLinks {
-                port: port,
                 front: from.subport_offset as u32 + 1,
-                back: self.back,
+                ..self
             },
         ))
     }
@@ -102,20 +95,14 @@ impl PortLinks {
         requires { MultiWf graph }
         ensures { (result ≡ step_back graph self) × (port_links_values result ≡ port_links_values (step_back graph self)) }
     {
-        let port = self.port;
-        let Ok((_, direction)) = graph.block_port(port) else {
-            return None;
-        };
-        let Some(link) = self.last_left(graph.wire_tables(), direction) else {
-            return None;
-        };
+        let (_, direction) = graph.block_port(self.port).ok()?;
+        let link = self.last_left(graph.wire_tables(), direction)?;
         let from = link.from;
         Some((
             link,
             PortLinks {
-                port: port,
-                front: self.front,
                 back: from.subport_offset as u32 + 1,
+                ..self
             },
         ))
     }

@@ -17,16 +17,13 @@ ghost use Rattle.multiportgraph.specs.Presumed.{OnBlock, LinkedPort, SplitPort};
 use crate::copies::HiddenCopy;
 use crate::multiportgraph::MultiPortGraph;
 use multi_tables::named::EndNeed;
-use multi_tables::reads::far_in;
 use multi_tables::seen::SidedPort;
 use port_tables::direction::Direction;
-use port_tables::index::{NODE_PORTS, NodeIndex, PortIndex};
+use port_tables::index::{MOVES, NodeIndex, PortIndex};
 use port_tables::numbers::wide;
+use port_tables::tables::far_in;
 use portgraph::portgraph::PortGraph;
 use portgraph::resize::PortsSet;
-
-// A move list that is long enough for every node.
-const MOVES: usize = 3 * NODE_PORTS;
 
 // A prepared end: the inner port and its offset, with the graph after it; where there is no room, none, with the graph as it was.
 #[derive(Clone, Copy)]
@@ -113,8 +110,7 @@ impl MultiPortGraph {
     {
         let shape = SplitShape::new(port.side);
         let added = self.graph.add_node(shape.incoming, shape.outgoing);
-        let answer = added.answer;
-        let Ok((node, first)) = answer else {
+        let Ok((node, first)) = added.answer else {
             return Prepared {
                 graph: self,
                 end: None,
@@ -153,8 +149,7 @@ impl MultiPortGraph {
         let hidden = self.hidden_copy(port);
         let (incoming, outgoing) = hidden_counts(port.side, hidden.count + 1);
         let sized = resized(self.graph, hidden.node, incoming, outgoing);
-        let answer = sized.answer;
-        let Ok(_) = answer else {
+        let Ok(_) = sized.answer else {
             return Prepared {
                 graph: self,
                 end: None,
@@ -164,6 +159,7 @@ impl MultiPortGraph {
     }
 
     // The end that a link of this port takes.
+    #[tactic(auto, using(crate::specs::NamedLaws::prepared_by_lem))]
     pub(crate) fn prepare(self, port: SidedPort) -> Prepared
         requires { OnBlock self port.port port.side }
         ensures { result ≡ prepared_as self (prepare self port.port port.side) }

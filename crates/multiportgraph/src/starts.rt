@@ -10,7 +10,8 @@ use crate::iter::{
 use crate::multiportgraph::MultiPortGraph;
 use multi_tables::answers::Refusal;
 use multi_tables::marks::either_flagged;
-use port_tables::index::{NodeIndex, PortIndex};
+use multi_tables::scans::Held;
+use port_tables::index::{NodeIndex, PortIndex, PortRange};
 use port_tables::sides::Sides;
 
 impl MultiPortGraph {
@@ -32,7 +33,9 @@ impl MultiPortGraph {
     pub fn wires(self) -> Wires
         ensures { result ≡ start_wires }
     {
-        Wires { held: 0, offset: 0 }
+        Wires {
+            held: Held::default(),
+        }
     }
 
     // Starts a walk over the ports of a block on one side or both.
@@ -55,8 +58,7 @@ impl MultiPortGraph {
         Ok(NodeSubports {
             node: node,
             sides: sides,
-            held: 0,
-            offset: 0,
+            held: Held::default(),
         })
     }
 
@@ -72,24 +74,16 @@ impl MultiPortGraph {
         })
     }
 
-    // Starts a walk over the links of a block; links to a port from `skip_from` on, `skip_to` excluded, are left out.
-    pub fn links(
-        self,
-        node: NodeIndex,
-        sides: Sides,
-        skip_from: u32,
-        skip_to: u32,
-    ) -> Result<NodeLinks, Refusal>
-        ensures { (result ≡ start_links self node sides skip_from skip_to) × (node_links_start_numbers result ≡ node_links_start_numbers (start_links self node sides skip_from skip_to)) }
+    // Starts a walk over the links of a block; links to the ports of a range are left out.
+    pub fn links(self, node: NodeIndex, sides: Sides, skip: PortRange) -> Result<NodeLinks, Refusal>
+        ensures { (result ≡ start_links self node sides skip.from skip.to) × (node_links_start_numbers result ≡ node_links_start_numbers (start_links self node sides skip.from skip.to)) }
     {
         self.block(node)?;
         Ok(NodeLinks {
             node: node,
             sides: sides,
-            skip_from: skip_from,
-            skip_to: skip_to,
-            held: 0,
-            offset: 0,
+            skip: skip,
+            held: Held::default(),
         })
     }
 
@@ -107,29 +101,26 @@ impl MultiPortGraph {
             node: node,
             sides: sides,
             ignore_self: ignore_self,
-            held: 0,
-            offset: 0,
+            held: Held::default(),
         })
     }
 
     // Starts a walk over the links from one block's outgoing side to another block.
+    #[tactic(auto, unfolding(crate::specs::Walks::start_between), using(crate::specs::StartSteps::start_hidden, crate::specs::StartSteps::start_visible))]
     pub fn get_connections(self, from: NodeIndex, to: NodeIndex) -> Result<NodeConnections, Refusal>
         ensures { (result ≡ start_connections self from to) × (node_connections_start_numbers result ≡ node_connections_start_numbers (start_connections self from to)) }
     {
         let graph = self.graph;
-        if graph.contains_node(from) {
-            if graph.contains_node(to) {
-                if either_flagged(&self.copy_node, from.0, to.0) {
-                    return Err(Refusal::HiddenNode);
-                }
-                return Ok(NodeConnections {
-                    node: from,
-                    target: to,
-                    held: 0,
-                    offset: 0,
-                });
-            }
+        if !graph.contains_node(from) || !graph.contains_node(to) {
+            return Err(Refusal::UnknownNode);
         }
-        Err(Refusal::UnknownNode)
+        if either_flagged(&self.copy_node, from.0, to.0) {
+            return Err(Refusal::HiddenNode);
+        }
+        Ok(NodeConnections {
+            node: from,
+            target: to,
+            held: Held::default(),
+        })
     }
 }

@@ -7,38 +7,39 @@ ghost use Rattle.multiportgraph.specs.WellFormed.{MultiWf};
 ghost use Rattle.multiportgraph.specs.WalkScans.{first_subport, subport_port, port_subports_in, subports_rest, subports_beyond};
 
 use crate::iter::NodeSubports;
+use crate::link_walks::held_at;
 use crate::multiportgraph::MultiPortGraph;
 use multi_tables::answers::SubportIndex;
-use multi_tables::scans::{Held, capped};
+use multi_tables::scans::Held;
 use multi_tables::seen::SidedPort;
 use multi_tables::wire_tables::WireTables;
-use port_tables::index::PortIndex;
+use port_tables::index::{PORT_SLOTS, PortIndex};
 use port_tables::numbers::wide;
 use port_tables::sides::{ports_from, ports_to};
 
 // The subport of a port at an offset, if it has one.
+#[tactic(auto, unfolding(multi_tables::specs::NamedEnds::block_port, port_tables::specs::Lists::range), using(crate::specs::SubportSteps::subports_unseen, crate::specs::SubportSteps::subport_there, crate::specs::SubportSteps::subport_past_lem))]
 fn subport_from(tables: WireTables<'_>, port: u32, offset: usize) -> Option<SubportIndex>
     ensures { (result ≡ first_subport (port_subports_in tables.entry.marks.now tables.entry.links.now tables.entry.owners.now tables.entry.flags.now port offset))
         × (subport_port port result ≡ port) }
 {
-    let Ok((_, direction)) = tables.block_port(PortIndex(port)) else {
-        return None;
+    let (_, direction) = tables.block_port(PortIndex(port)).ok()?;
+    let sided = SidedPort {
+        port: port,
+        side: direction,
     };
-    if offset
-        < tables.span_count(SidedPort {
-            port: port,
-            side: direction,
-        })
-    {
-        return Some(SubportIndex {
-            port: PortIndex(port),
-            subport_offset: offset as u16,
-        });
+    if tables.span_count(sided) <= offset {
+        return None;
     }
-    None
+    Some(SubportIndex {
+        port: PortIndex(port),
+        subport_offset: offset as u16,
+    })
 }
 
-// The first subport of the ports below `end`, from one port and offset on.
+// The first subport of the ports below `end`, from one port and offset on. Stays beside next_link of multi_tables: one search for both would take a closure
+// for what a port gives, and its contract would speak of that closure in place of subports; no plainer.
+#[tactic(auto, using(crate::specs::SubportSteps::subports_turn, crate::specs::SubportSteps::subports_found, crate::specs::SubportSteps::subports_done))]
 fn next_subport(
     tables: WireTables<'_>,
     from: usize,
@@ -48,7 +49,7 @@ fn next_subport(
     ensures { (result ≡ first_subport (subports_rest tables.entry.marks.now tables.entry.links.now tables.entry.owners.now tables.entry.flags.now from offset (min end port_slots - from)))
         × (subport_port 0 result < port_slots) }
 {
-    let stop = capped(end);
+    let stop = end.min(PORT_SLOTS);
     let mut first = offset;
     for port in from..stop {
         let found = subport_from(tables, port as u32, first);
@@ -61,6 +62,7 @@ fn next_subport(
 }
 
 // The first subport of the ports from `from` on and below `end` that lies beyond what a cursor holds.
+#[tactic(auto, unfolding(crate::specs::WalkScans::subports_beyond))]
 fn subport_beyond(
     tables: WireTables<'_>,
     from: usize,
@@ -78,43 +80,25 @@ fn subport_beyond(
 }
 
 impl NodeSubports {
+    #[tactic(auto, using(crate::specs::WalkSteps::both_refused, crate::specs::WalkSteps::both_found, crate::specs::SubportSteps::subports_gone, crate::specs::SubportSteps::subports_none))]
     pub fn step(self, graph: MultiPortGraph) -> Option<(SubportIndex, NodeSubports)>
         requires { MultiWf graph }
         ensures { (result ≡ step_subports graph self) × (node_subports_values result ≡ node_subports_values (step_subports graph self)) }
     {
-        let node = self.node;
         let sides = self.sides;
-        let block = graph.block(node);
-        let Ok(meta) = block else {
+        let held = self.held;
+        let meta = graph.block(self.node).ok()?;
+        if !graph.held_seen(held.port) {
             return None;
-        };
-        if graph.held_seen(self.held) {
-            let held = Held {
-                port: self.held,
-                offset: self.offset,
-            };
-            let found = subport_beyond(
-                graph.wire_tables(),
-                ports_from(meta, sides),
-                ports_to(meta, sides),
-                held,
-            );
-            return match found {
-                None => None,
-                Some(subport) => {
-                    let port = subport.port;
-                    Some((
-                        subport,
-                        NodeSubports {
-                            node: node,
-                            sides: sides,
-                            held: port.0 + 1,
-                            offset: subport.subport_offset,
-                        },
-                    ))
-                }
-            };
         }
-        None
+        let from = ports_from(meta, sides);
+        let subport = subport_beyond(graph.wire_tables(), from, ports_to(meta, sides), held)?;
+        Some((
+            subport,
+            NodeSubports {
+                held: held_at(subport),
+                ..self
+            },
+        ))
     }
 }

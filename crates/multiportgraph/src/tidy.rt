@@ -13,7 +13,7 @@ ghost use Rattle.multiportgraph.specs.Presumed.{OnBlock, SplitPort, LeftPort};
 
 use crate::multiportgraph::{MultiPortGraph, PortTidied};
 use crate::prepare::{hidden_counts, linked, resized};
-use multi_tables::marks::marked;
+use multi_tables::marks::flagged;
 use multi_tables::seen::SidedPort;
 use port_tables::index::{PORT_SLOTS, PortIndex};
 use port_tables::numbers::wide;
@@ -24,12 +24,10 @@ pub(crate) fn linked_from(links: &[u32; PORT_SLOTS], first: usize, count: usize)
     requires { first + count ≤ port_slots }
     ensures { result ≡ linked_from links.now first count }
 {
-    for k in (0..count).rev() {
-        if links[first + k] != 0 {
-            return k + 1;
-        }
-    }
-    0
+    (0..count)
+        .rev()
+        .find(|k| at(links, first + *k) != 0)
+        .map_or(0, |k| k + 1)
 }
 
 impl MultiPortGraph {
@@ -55,46 +53,42 @@ impl MultiPortGraph {
         // as the table holds it: one higher than the port, 0 for nothing
         let held = at(&self.graph.port_link, self.wire_tables().first_in(port));
         let mut bare = self.drop_copy(port);
-        if held == 0 {
+        let Some(far) = held.checked_sub(1) else {
             return bare;
-        }
-        let far = held - 1;
-        let after = linked(bare.graph, port.port, far);
-        bare.graph = after;
+        };
+        bare.graph = linked(bare.graph, port.port, far);
         bare
     }
 
     // Tidies a port: empty subports above the highest wired one go. Where only offset 0 is then wired, or none is, the hidden node
     // goes, and the wire, if there is one, is linked to the port directly.
+    #[tactic(auto, unfolding(crate::specs::Calls::tidy_port, crate::specs::Lookups::direction_of))]
     pub fn tidy(self, port: PortIndex) -> PortTidied
         requires { MultiWf self }
         ensures { (result ≡ tidy_port self port.0) × (tidy_numbers result.answer ≡ tidy_numbers (tidy_port self port.0).answer) }
     {
         match self.port_direction(port) {
-            Ok(side) => {
-                return PortTidied {
-                    graph: self.tidied(SidedPort {
-                        port: port.0,
-                        side: side,
-                    }),
-                    answer: Ok(()),
-                };
-            }
-            Err(refusal) => {
-                return PortTidied {
-                    graph: self,
-                    answer: Err(refusal),
-                };
-            }
+            Ok(side) => PortTidied {
+                graph: self.tidied(SidedPort {
+                    port: port.0,
+                    side: side,
+                }),
+                answer: Ok(()),
+            },
+            Err(refusal) => PortTidied {
+                graph: self,
+                answer: Err(refusal),
+            },
         }
     }
 
     // The graph with a port of a block tidied.
+    #[tactic(auto, using(crate::specs::CodeFormSteps::split_told, crate::specs::TidySteps::left_read, crate::specs::TidySteps::many_read))]
     fn tidied(self, port: SidedPort) -> MultiPortGraph
         requires { OnBlock self port.port port.side }
         ensures { result ≡ cond (is_split self port.port) (tidied self port.port port.side) self }
     {
-        if marked(&self.multiport, wide(port.port)) {
+        if self.is_split(port.port) {
             let tables = self.wire_tables();
             let count = tables.subports_in(port);
             let first = tables.first_in(port);
@@ -105,6 +99,7 @@ impl MultiPortGraph {
     }
 
     // The graph with so many of the subports of a split port left.
+    #[tactic(auto, unfolding(crate::specs::Tidy::tidied), using(crate::specs::TidySteps::left_all))]
     fn with_left(self, port: SidedPort, count: usize, left: usize) -> MultiPortGraph
         requires { SplitPort self port.port port.side × (count ≡ subports self port.port port.side) × (left ≡ subports_left self port.port port.side) }
         ensures { result ≡ tidied self port.port port.side }

@@ -1,7 +1,8 @@
 // Walks over the blocks, over all ports, and over the ports of a block.
 ghost use Rattle.std.specs.Prelude.{◌≡◌, ◌<◌, ◌≤◌, MatchOption, Some, None};
 ghost use Rattle.port_tables.specs.Limits.{port_slots};
-ghost use Rattle.multiportgraph.specs.Walks.{node_held, step_nodes, step_nodes_back, step_all_ports, step_all_ports_back, step_node_ports};
+ghost use Rattle.multi_tables.specs.TableReads.{seen_in};
+ghost use Rattle.multiportgraph.specs.Walks.{is_seen, node_held, step_nodes, step_nodes_back, step_all_ports, step_all_ports_back, step_node_ports};
 ghost use Rattle.multiportgraph.specs.WalkNumbers.{nodes_values, ports_values, node_ports_values};
 ghost use Rattle.multiportgraph.specs.WellFormed.{MultiWf};
 ghost use Rattle.multiportgraph.specs.WalkScans.{held_in, block_slot, ports_in};
@@ -23,202 +24,170 @@ pub(crate) fn end_before(back: u32, count: usize) -> usize
     if back == 0 {
         return count;
     }
-    let end = wide(back) - 1;
-    if count <= end { count } else { end }
+    count.min(wide(back) - 1)
 }
 
 // Whether a node slot holds a block.
 fn is_block(slot: NodeSlot, hidden: bool) -> bool
     ensures { result ≡ block_slot slot.entry hidden }
 {
-    if hidden {
-        return false;
-    }
-    slot.is_node()
+    !hidden && slot.is_node()
 }
 
 impl MultiPortGraph {
     // Whether the block that a cursor holds is still there. Stays beside the other graph's: each asks its own graph what it contains.
+    #[tactic(auto, unfolding(crate::specs::Walks::node_held))]
     fn node_held(self, held: u32) -> bool
         ensures { result ≡ node_held self held }
     {
-        if held == 0 {
-            return true;
-        }
-        self.contains_node(NodeIndex(held - 1))
+        held == 0 || self.contains_node(NodeIndex(held - 1))
+    }
+
+    // Whether a port is a block's.
+    fn port_seen(&self, port: u32) -> bool
+        ensures { result ≡ is_seen (seen_in self.now.graph.port_meta self.now.copy_node port) }
+    {
+        self.block_port(PortIndex(port)).is_ok()
     }
 
     // Whether the port that a cursor holds is still there.
+    #[tactic(auto, unfolding(crate::specs::WalkScans::held_in))]
     pub(crate) fn held_seen(&self, held: u32) -> bool
         ensures { result ≡ held_in self.now.graph.port_meta self.now.copy_node held }
     {
-        if held == 0 {
-            return true;
-        }
-        self.block_port(PortIndex(held - 1)).is_ok()
+        held == 0 || self.port_seen(held - 1)
     }
 
     // The first port of a block from one slot on and below another.
-    fn first_port(&self, from: usize, end: usize) -> Option<u32>
+    fn first_port(&self, from: usize, end: usize) -> Option<usize>
         requires { end ≤ port_slots }
-        ensures { (result ≡ on_first None Some (ports_in self.now.graph.port_meta self.now.copy_node from end)) × MatchOption result (Unit {0}) (λ p. p < port_slots) }
+        ensures { (result ≡ on_first None Some (ports_in self.now.graph.port_meta self.now.copy_node from end)) × MatchOption result (Unit {0}) (λ p. p < end) }
     {
-        for port in from..end {
-            if self.held_seen(port as u32 + 1) {
-                return Some(port as u32);
-            }
-        }
-        None
+        (from..end).find(|port| self.port_seen(*port as u32))
     }
 
     // The last one.
-    fn last_port(&self, from: usize, end: usize) -> Option<u32>
+    fn last_port(&self, from: usize, end: usize) -> Option<usize>
         requires { end ≤ port_slots }
-        ensures { (result ≡ on_last None Some (ports_in self.now.graph.port_meta self.now.copy_node from end)) × MatchOption result (Unit {0}) (λ p. p < port_slots) }
+        ensures { (result ≡ on_last None Some (ports_in self.now.graph.port_meta self.now.copy_node from end)) × MatchOption result (Unit {0}) (λ p. p < end) }
     {
-        for port in (from..end).rev() {
-            if self.held_seen(port as u32 + 1) {
-                return Some(port as u32);
-            }
-        }
-        None
+        (from..end).rev().find(|port| self.port_seen(*port as u32))
     }
 }
 
 // Two methods, as next and next_back of the library's iterators.
 impl Nodes {
+    #[tactic(auto, using(crate::specs::WalkSteps::nodes_front_gone, crate::specs::WalkSteps::nodes_back_gone))]
     pub fn step(self, graph: MultiPortGraph) -> Option<(NodeIndex, Nodes)>
         ensures { (result ≡ step_nodes graph self) × (nodes_values result ≡ nodes_values (step_nodes graph self)) }
     {
         let front = self.front;
         let back = self.back;
-        if graph.node_held(front) {
-            if graph.node_held(back) {
-                let lower = graph.graph;
-                let slots = lower.node_slots();
-                let end = end_before(back, NODE_SLOTS);
-                for n in wide(front)..end {
-                    let slot = slots[n];
-                    if is_block(slot, flagged(&graph.copy_node, n)) {
-                        return Some((
-                            NodeIndex(n as u32),
-                            Nodes {
-                                front: n as u32 + 1,
-                                back: back,
-                            },
-                        ));
-                    }
-                }
-            }
+        if !graph.node_held(front) || !graph.node_held(back) {
+            return None;
         }
-        None
+        let lower = graph.graph;
+        let slots = lower.node_slots();
+        let end = end_before(back, NODE_SLOTS);
+        let n = (wide(front)..end).find(|n| is_block(slots[*n], flagged(&graph.copy_node, *n)))?;
+        Some((
+            NodeIndex(n as u32),
+            Nodes {
+                front: n as u32 + 1,
+                ..self
+            },
+        ))
     }
 
+    #[tactic(auto, using(crate::specs::WalkSteps::back_front_gone, crate::specs::WalkSteps::back_back_gone))]
     pub fn step_back(self, graph: MultiPortGraph) -> Option<(NodeIndex, Nodes)>
         ensures { (result ≡ step_nodes_back graph self) × (nodes_values result ≡ nodes_values (step_nodes_back graph self)) }
     {
         let front = self.front;
         let back = self.back;
-        if graph.node_held(front) {
-            if graph.node_held(back) {
-                let lower = graph.graph;
-                let slots = lower.node_slots();
-                let from = wide(front);
-                let end = end_before(back, NODE_SLOTS);
-                for n in (from..end).rev() {
-                    let slot = slots[n];
-                    if is_block(slot, flagged(&graph.copy_node, n)) {
-                        return Some((
-                            NodeIndex(n as u32),
-                            Nodes {
-                                front: front,
-                                back: n as u32 + 1,
-                            },
-                        ));
-                    }
-                }
-            }
+        if !graph.node_held(front) || !graph.node_held(back) {
+            return None;
         }
-        None
+        let lower = graph.graph;
+        let slots = lower.node_slots();
+        let end = end_before(back, NODE_SLOTS);
+        let n = (wide(front)..end)
+            .rev()
+            .find(|n| is_block(slots[*n], flagged(&graph.copy_node, *n)))?;
+        Some((
+            NodeIndex(n as u32),
+            Nodes {
+                back: n as u32 + 1,
+                ..self
+            },
+        ))
     }
 }
 
 // Two methods, as next and next_back of the library's iterators.
 impl Ports {
+    #[tactic(auto, using(crate::specs::WalkSteps::ports_front_gone, crate::specs::WalkSteps::ports_back_gone, crate::specs::WalkSteps::ports_item_lem, crate::specs::WalkSteps::ports_none))]
     pub fn step(self, graph: MultiPortGraph) -> Option<(PortIndex, Ports)>
         requires { MultiWf graph }
         ensures { (result ≡ step_all_ports graph self) × (ports_values result ≡ ports_values (step_all_ports graph self)) }
     {
         let front = self.front;
         let back = self.back;
-        if graph.held_seen(front) {
-            if graph.held_seen(back) {
-                let end = end_before(back, PORT_SLOTS);
-                let Some(port) = graph.first_port(wide(front), end) else {
-                    return None;
-                };
-                return Some((
-                    PortIndex(port),
-                    Ports {
-                        front: port + 1,
-                        back: back,
-                    },
-                ));
-            }
+        if !graph.held_seen(front) || !graph.held_seen(back) {
+            return None;
         }
-        None
+        let end = end_before(back, PORT_SLOTS);
+        let port = graph.first_port(wide(front), end)?;
+        Some((
+            PortIndex(port as u32),
+            Ports {
+                front: port as u32 + 1,
+                ..self
+            },
+        ))
     }
 
+    #[tactic(auto, using(crate::specs::WalkSteps::ports_back_front_gone, crate::specs::WalkSteps::ports_back_back_gone, crate::specs::WalkSteps::ports_back_item, crate::specs::WalkSteps::ports_back_none))]
     pub fn step_back(self, graph: MultiPortGraph) -> Option<(PortIndex, Ports)>
         requires { MultiWf graph }
         ensures { (result ≡ step_all_ports_back graph self) × (ports_values result ≡ ports_values (step_all_ports_back graph self)) }
     {
         let front = self.front;
         let back = self.back;
-        if graph.held_seen(front) {
-            if graph.held_seen(back) {
-                let end = end_before(back, PORT_SLOTS);
-                let Some(port) = graph.last_port(wide(front), end) else {
-                    return None;
-                };
-                return Some((
-                    PortIndex(port),
-                    Ports {
-                        front: front,
-                        back: port + 1,
-                    },
-                ));
-            }
+        if !graph.held_seen(front) || !graph.held_seen(back) {
+            return None;
         }
-        None
+        let end = end_before(back, PORT_SLOTS);
+        let port = graph.last_port(wide(front), end)?;
+        Some((
+            PortIndex(port as u32),
+            Ports {
+                back: port as u32 + 1,
+                ..self
+            },
+        ))
     }
 }
 
 impl NodePorts {
+    #[tactic(auto, using(crate::specs::WalkSteps::both_refused, crate::specs::WalkSteps::both_found, crate::specs::WalkSteps::node_ports_gone, crate::specs::WalkSteps::node_ports_item, crate::specs::WalkSteps::node_ports_none))]
     pub fn step(self, graph: MultiPortGraph) -> Option<(PortIndex, NodePorts)>
         requires { MultiWf graph }
         ensures { (result ≡ step_node_ports graph self) × (node_ports_values result ≡ node_ports_values (step_node_ports graph self)) }
     {
-        let node = self.node;
         let sides = self.sides;
         let held = self.held;
-        let block = graph.block(node);
-        let Ok(meta) = block else {
+        let meta = graph.block(self.node).ok()?;
+        let port = ports_from(meta, sides).max(wide(held));
+        if !graph.held_seen(held) || ports_to(meta, sides) <= port {
             return None;
-        };
-        if graph.held_seen(held) {
-            let port = ports_from(meta, sides).max(wide(held));
-            if port < ports_to(meta, sides) {
-                return Some((
-                    PortIndex(port as u32),
-                    NodePorts {
-                        node: node,
-                        sides: sides,
-                        held: port as u32 + 1,
-                    },
-                ));
-            }
         }
-        None
+        Some((
+            PortIndex(port as u32),
+            NodePorts {
+                held: port as u32 + 1,
+                ..self
+            },
+        ))
     }
 }

@@ -8,6 +8,7 @@ ghost use Rattle.multi_tables.specs.Scans.{first_found, link_port, wires_in};
 ghost use Rattle.multiportgraph.specs.WalkScans.{wires_found};
 
 use crate::iter::Wires;
+use crate::link_walks::held_at;
 use crate::multiportgraph::MultiPortGraph;
 use multi_tables::answers::SubportLink;
 use multi_tables::marks::flagged;
@@ -17,6 +18,7 @@ use port_tables::numbers::wide;
 
 impl MultiPortGraph {
     // The first wire of the node slots from `node` on; of that one beyond what a cursor holds.
+    #[tactic(auto, unfolding(multi_tables::specs::Scans::first_found, multi_tables::specs::Scans::wires_in), using(multi_tables::specs::ScanSteps::nodes_turn))]
     fn next_wire(self, node: usize, held: Held) -> Option<SubportLink>
         ensures { (result ≡ first_found (wires_in self.multiport self.graph.port_link self.graph.port_meta self.copy_node self.graph.node_meta node held.port held.offset (node_slots - node)))
             × (link_port 0 result < port_slots) }
@@ -30,50 +32,36 @@ impl MultiPortGraph {
             if let Some(_) = found {
                 return found;
             }
-            left = Held { port: 0, offset: 0 };
+            left = Held::default();
         }
         None
     }
 }
 
-// A wire with the cursor beyond it.
-fn wires_item(found: Option<SubportLink>) -> Option<(SubportLink, Wires)>
-    requires { link_port 0 found < port_slots }
-    ensures { result ≡ wires_found found }
-{
-    match found {
-        None => None,
-        Some(link) => {
-            let from = link.from;
-            let port = from.port;
-            Some((
-                link,
-                Wires {
-                    held: port.0 + 1,
-                    offset: from.subport_offset,
-                },
-            ))
-        }
-    }
-}
-
 impl Wires {
-    // It ends where the port held is gone or hidden, and else goes on from that port's present block.
+    // The wire that comes next: none where the port held is gone or hidden; else the walk goes on from that port's present block.
+    fn next_link(self, graph: MultiPortGraph) -> Option<SubportLink>
+        requires { MultiWf graph }
+        ensures { (wires_found result ≡ step_wires graph self) × (link_port 0 result < port_slots) }
+    {
+        let held = self.held;
+        if held.port == 0 {
+            return graph.next_wire(0, Held::default());
+        }
+        let (node, _) = graph.block_port(PortIndex(held.port - 1)).ok()?;
+        graph.next_wire(wide(node.0), held)
+    }
+
     pub fn step(self, graph: MultiPortGraph) -> Option<(SubportLink, Wires)>
         requires { MultiWf graph }
         ensures { (result ≡ step_wires graph self) × (wires_values result ≡ wires_values (step_wires graph self)) }
     {
-        let held = Held {
-            port: self.held,
-            offset: self.offset,
-        };
-        if held.port == 0 {
-            return wires_item(graph.next_wire(0, Held { port: 0, offset: 0 }));
-        }
-        let port = PortIndex(held.port - 1);
-        let Ok((node, _)) = graph.block_port(port) else {
-            return None;
-        };
-        wires_item(graph.next_wire(wide(node.0), held))
+        let link = self.next_link(graph)?;
+        Some((
+            link,
+            Wires {
+                held: held_at(link.from),
+            },
+        ))
     }
 }

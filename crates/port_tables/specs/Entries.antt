@@ -2,6 +2,7 @@
 use Rattle.std.specs.Prelude.{cond, Bool, true, false, List, [], ◌∷◌, ℕ, ◌+◌, ◌*◌, ◌-◌, ◌/◌, ◌%◌, eqb, get_or, set, Option, Some, None}
 use Rattle.port_tables.specs.declared.direction.Direction.{Direction}
 use Rattle.port_tables.specs.declared.direction.Direction.TheVariants.{Incoming, Outgoing}
+use Rattle.port_tables.specs.declared.port_entry.PortMeta.{PortMeta}
 use Rattle.port_tables.specs.declared.port_entry.PortEntry.{PortEntry}
 use Rattle.port_tables.specs.declared.node_entry.NodeEntry.TheVariants.{Free, Node}
 use Rattle.port_tables.specs.declared.node_entry.NodeSlot.{NodeSlot}
@@ -84,9 +85,17 @@ abbrev pub meta_of_entry : NodeEntry → Option NodeMeta
 meta_of_entry (node_variants.Free f) = None
 meta_of_entry (node_variants.Node m) = Some m
 
+abbrev pub port_of_entry : PortEntry → Option PortMeta
+port_of_entry port_variants.Free = None
+port_of_entry (port_variants.Port m) = Some m
+
 abbrev pub node_of : PortEntry → Option NodeIndex
 node_of port_variants.Free = None
 node_of (port_variants.Port m) = Some m.node
+
+abbrev pub node_number : Option NodeIndex → ℕ
+node_number (Some n) = n.0
+node_number None = 0
 
 abbrev pub same_side : Direction → Direction → Bool
 same_side Incoming Incoming = true

@@ -1,13 +1,13 @@
 -- Slots read and written as numbers, step by step: what the functions' proofs cite.
 use Rattle.std.specs.Prelude.{◌≡◌, refl, List, [], ◌∷◌, ◌++◌, Bool, true, false, set, get_or, length, ltb, take, drop}
-use Rattle.std.proofs.Common.{ap, sym, ◌∙◌, subst, lt-ltb, le-ltb, eq-eqb, ne_eqb, ltb-true, ltb-false}
+use Rattle.std.proofs.Common.{ap, sym, ◌∙◌, lt-ltb, le-ltb, eq-eqb, ne_eqb, ltb-true, ltb-false}
 use Prim.Native.Nat.{ℕ, suc, ◌*◌, ◌+◌, zero, ◌<◌, ◌≤◌}
 use native.Mathlib.Omega.{arith}
 use Rattle.std.proofs.lemmas.List.Edits.{sets, sets-eq}
 use Rattle.std.proofs.lemmas.List.{set-get_or, append_assoc, drop-drop}
-use Rattle.port_tables.specs.NodeWords.{slot_of_words, slots_in, narrow, slot_in, put_slot, meta_in, words_of_entry, words_of, Own, Canonical, StaysCanonical}
+use Rattle.port_tables.specs.NodeWords.{slot_of_words, slots_in, narrow, slot_in, put_slot, words_of_entry, words_of, StaysCanonical}
 use Rattle.port_tables.specs.declared.node_entry.NodeSlot.{NodeSlot}
-use Rattle.port_tables.specs.Entries.{fresh_slot, free_slot_of, node_slot_of, meta_of, with_prev, next_of, meta_of_entry}
+use Rattle.port_tables.specs.Entries.{fresh_slot, free_slot_of, node_slot_of, meta_of, with_prev, next_of}
 use Rattle.port_tables.specs.Limits.{node_slots}
 use Rattle.port_tables.specs.declared.node_entry.NodeEntry.{NodeEntry}
 use Rattle.port_tables.specs.declared.node_entry.NodeMeta.{NodeMeta}
@@ -19,15 +19,6 @@ use Rattle.port_tables.specs.declared.node_entry.NodeEntry.TheVariants as node_v
 
 pub next_five : (n : ℕ) → 5 * suc n ≡ suc (suc (suc (suc (suc (5 * n)))))
 next_five n = omega arith
-
--- five stores in a row
-pub stored_words : (t : List ℕ) (n k a b c d : ℕ) → set (set (set (set (set t (5 * n) k) (5 * n + 1) a) (5 * n + 2) b) (5 * n + 3) c) (5 * n + 4) d ≡ sets t (5 * n) (k ∷ a ∷ b ∷ c ∷ d ∷ [])
-stored_words t n k a b c d =
-    let e1 : 5 * n + 1 ≡ suc (5 * n) = omega arith in
-    let e2 : 5 * n + 2 ≡ suc (suc (5 * n)) = omega arith in
-    let e3 : 5 * n + 3 ≡ suc (suc (suc (5 * n))) = omega arith in
-    let e4 : 5 * n + 4 ≡ suc (suc (suc (suc (5 * n)))) = omega arith in
-    rw (e1, e2, e3, e4)
 
 pub words_written : (t : List ℕ) (n k a b c d : ℕ) → slots_in (sets t (5 * n) (k ∷ a ∷ b ∷ c ∷ d ∷ [])) ≡ set (slots_in t) n (slot_of_words k a b c d)
 unfolding slots_in
@@ -78,10 +69,6 @@ pub narrow_small : (x : ℕ) → x < 65536 → x ≡ narrow x
 unfolding narrow
 narrow_small x h = rw (lt-ltb x 65536 h)
 
-pub narrow_large : (x : ℕ) → 65536 ≤ x → 0 ≡ narrow x
-unfolding narrow
-narrow_large x h = rw (le-ltb x 65536 h)
-
 pub free_of_words : (k a b c d x y : ℕ) → k ≡ 0 → x ≡ narrow a → y ≡ narrow b → free_slot_of x y ≡ slot_of_words k a b c d
 unfolding slot_of_words
 free_of_words k a b c d x y h e f = rw (eq-eqb k 0 h, e, f)
@@ -90,19 +77,12 @@ pub node_of_words : (k a b c d x y z : ℕ) → (k ≡ 0 → ⊥) → x ≡ narr
 unfolding slot_of_words
 node_of_words k a b c d x y z h e f g = rw (ne_eqb k 0 h, e, f, g)
 
-pub slot_outside : (t : List ℕ) (n : ℕ) → node_slots ≤ n → fresh_slot ≡ slot_in t n
-unfolding slot_in
-slot_outside t n h = rw (le-ltb n node_slots h)
-
 pub slot_inside : (t : List ℕ) (n : ℕ) → n < node_slots → slot_of_words (get_or t (5 * n) 0) (get_or t (5 * n + 1) 0) (get_or t (5 * n + 2) 0) (get_or t (5 * n + 3) 0) (get_or t (5 * n + 4) 0) ≡ slot_in t n
 unfolding slot_in
 slot_inside t n h = rw (lt-ltb n node_slots h)
 
 -- the neighbours of a free entry
 module _ (t : List ℕ) (n : ℕ) where
-  pub next_outside : node_slots ≤ n → 0 ≡ next_of (slot_in t n).entry
-  next_outside h = ap (λ (s : NodeSlot). next_of s.entry) (slot_outside t n h)
-
   module _ (h : n < node_slots) where
     free_entry : get_or t (5 * n) 0 ≡ 0 → free_slot_of (narrow (get_or t (5 * n + 1) 0)) (narrow (get_or t (5 * n + 2) 0)) ≡ slot_in t n
     free_entry z = free_of_words (get_or t (5 * n) 0) (get_or t (5 * n + 1) 0) (get_or t (5 * n + 2) 0) (get_or t (5 * n + 3) 0) (get_or t (5 * n + 4) 0) _ _ z refl refl ∙ slot_inside t n h
@@ -112,9 +92,6 @@ module _ (t : List ℕ) (n : ℕ) where
 
     pub next_free : (x : ℕ) → get_or t (5 * n) 0 ≡ 0 → x ≡ narrow (get_or t (5 * n + 2) 0) → x ≡ next_of (slot_in t n).entry
     next_free x z e = e ∙ ap (λ (s : NodeSlot). next_of s.entry) (free_entry z)
-
-    pub next_node : (get_or t (5 * n) 0 ≡ 0 → ⊥) → 0 ≡ next_of (slot_in t n).entry
-    next_node z = ap (λ (s : NodeSlot). next_of s.entry) (node_entry z)
 
     -- the second number stored: what the slot is then
     second_put : (v : ℕ) → slots_in (set t (5 * n + 1) v) ≡ put_slot (slots_in t) n (slot_of_words (get_or t (5 * n) 0) v (get_or t (5 * n + 2) 0) (get_or t (5 * n + 3) 0) (get_or t (5 * n + 4) 0))
@@ -137,10 +114,6 @@ module _ (t : List ℕ) (n : ℕ) where
         let same = ap slots_in (sym (set-get_or t (5 * n + 1) 0)) ∙ second_put (get_or t (5 * n + 1) 0) in
         same ∙ ap (put_slot (slots_in t) n) (slot_inside t n h ∙ (sym (node_entry z) ∙ ap (λ (s : NodeSlot). with_prev s p) (node_entry z)))
 
-pub words_put : (t : List ℕ) (n k a b c d : ℕ) → n < node_slots → slots_in (set (set (set (set (set t (5 * n) k) (5 * n + 1) a) (5 * n + 2) b) (5 * n + 3) c) (5 * n + 4) d) ≡ put_slot (slots_in t) n (slot_of_words k a b c d)
-unfolding put_slot
-words_put t n k a b c d h = rw (lt-ltb n node_slots h) (ap slots_in (stored_words t n k a b c d) ∙ words_written t n k a b c d)
-
 pub put_outside : (l : List NodeSlot) (n : ℕ) (s : NodeSlot) → node_slots ≤ n → l ≡ put_slot l n s
 unfolding put_slot
 put_outside l n s h = rw (le-ltb n node_slots h)
@@ -156,16 +129,6 @@ slot_of e = record { entry = e }
 pub node_words : (m : NodeMeta) → m.incoming < 65536 → m.outgoing < 65536 → m.capacity < 65536 → slot_of_words 1 m.first_port.0 m.incoming m.outgoing m.capacity ≡ node_slot_of m
 node_words m h i j = sym (node_of_words 1 m.first_port.0 m.incoming m.outgoing m.capacity m.incoming m.outgoing m.capacity (λ z. omega arith) (narrow_small m.incoming h) (narrow_small m.outgoing i) (narrow_small m.capacity j))
 
-pub put_node : (l t : List NodeSlot) (n : ℕ) (s : NodeSlot) (m : NodeMeta) → s.entry ≡ node_variants.Node m
-    → m.incoming < 65536 → m.outgoing < 65536 → m.capacity < 65536
-    → t ≡ put_slot l n (slot_of_words 1 m.first_port.0 m.incoming m.outgoing m.capacity) → t ≡ put_slot l n s
-put_node l t n s m e h i j p = p ∙ ap (put_slot l n) (node_words m h i j ∙ ap (λ (x : NodeEntry). slot_of x) (sym e))
-
-pub put_free : (l t : List NodeSlot) (n : ℕ) (s : NodeSlot) (f : FreeNodeEntry) → s.entry ≡ node_variants.Free f
-    → f.prev < 65536 → f.next < 65536
-    → t ≡ put_slot l n (slot_of_words 0 f.prev f.next 0 0) → t ≡ put_slot l n s
-put_free l t n s f e h i p = p ∙ ap (put_slot l n) (sym (free_of_words 0 f.prev f.next 0 0 _ _ refl (narrow_small f.prev h) (narrow_small f.next i)) ∙ ap (λ (x : NodeEntry). slot_of x) (sym e))
-
 -- a slot that is read is the table's
 pub slot_read_inside : (t : List ℕ) (n : ℕ) → n < node_slots → n < length (slots_in t) → slot_in t n ≡ get_or (slots_in t) n fresh_slot
 unfolding slot_in
@@ -175,9 +138,6 @@ slot_read_inside t n h i =
     let e3 : 5 * n + 3 ≡ suc (suc (suc (5 * n))) = omega arith in
     let e4 : 5 * n + 4 ≡ suc (suc (suc (suc (5 * n)))) = omega arith in
     rw (lt-ltb n node_slots h, e1, e2, e3, e4) (words_read t n i)
-
-pub entry_read : (t : List ℕ) (n w : ℕ) (s : NodeSlot) (e : NodeEntry) → w ≡ n → s ≡ slot_in t w → s.entry ≡ e → meta_of_entry e ≡ meta_in t n
-entry_read t n w s e h p q = ap meta_of_entry (sym q ∙ ap (λ (x : NodeSlot). x.entry) (p ∙ ap (slot_in t) h))
 
 -- Stores.
 
@@ -202,23 +162,6 @@ slot_stored [] n (Free f) = refl
 slot_stored [] n (Node m) = refl
 slot_stored (s ∷ l) zero e = first_stored s.entry e (words_of l)
 slot_stored (s ∷ l) (suc n) e = rw (next_five n) (later_stored s.entry e (words_of l) (5 * n) ∙ ap (λ (r : List ℕ). words_of_entry s.entry ++ r) (slot_stored l n e))
-
-pub words_put_canonical : (t : List ℕ) (n k a b c d : ℕ) → Own k a b c d
-    → StaysCanonical t (set (set (set (set (set t (5 * n) k) (5 * n + 1) a) (5 * n + 2) b) (5 * n + 3) c) (5 * n + 4) d)
-words_put_canonical t n k a b c d o h =
-    let ws : List ℕ = k ∷ a ∷ b ∷ c ∷ d ∷ [] in
-    let s : NodeSlot = slot_of_words k a b c d in
-    let e : sets t (5 * n) ws ≡ words_of (slots_in (sets t (5 * n) ws)) =
-    (λ i. sets (h i) (5 * n) (sym o i)) ∙ (slot_stored (slots_in t) n s.entry ∙ ap words_of (sym (words_written t n k a b c d))) in
-    subst Canonical (sym (stored_words t n k a b c d)) e
-
-pub free_own : (f : FreeNodeEntry) → f.prev < 65536 → f.next < 65536 → Own 0 f.prev f.next 0 0
-unfolding words_of_entry
-free_own f h i = ap (λ (s : NodeSlot). words_of_entry s.entry) (sym (free_of_words 0 f.prev f.next 0 0 f.prev f.next refl (narrow_small f.prev h) (narrow_small f.next i)))
-
-pub node_own : (m : NodeMeta) → m.incoming < 65536 → m.outgoing < 65536 → m.capacity < 65536 → Own 1 m.first_port.0 m.incoming m.outgoing m.capacity
-unfolding words_of_entry
-node_own m h i j = ap (λ (s : NodeSlot). words_of_entry s.entry) (node_words m h i j)
 
 -- The numbers of a slot, read back, and stored.
 

@@ -1,13 +1,13 @@
 -- Steps that the proofs of these functions cite: rounding up, and links of ports that are dropped or moved.
-use Rattle.std.specs.Prelude.{◌≡◌, refl, List, [], ◌∷◌, ◌++◌, false, ℕ, zero, suc, ◌≤◌, ◌*◌, ◌/◌, ◌^◌, ◌<◌, ◌+◌, ◌-◌, min, max, length, set, eqb, ltb}
+use Rattle.std.specs.Prelude.{◌≡◌, refl, List, [], ◌∷◌, ◌++◌, ℕ, zero, suc, ◌≤◌, ◌*◌, ◌/◌, ◌^◌, ◌<◌, ◌+◌, ◌-◌, min, max, length, set}
 use Rattle.std.specs.Int.{IsPowerOfTwo}
-use Rattle.std.proofs.Common.{◌∙◌, sym, ap, arith, le-leb, eq-eqb, ne_eqb, lt-ltb, le-ltb}
+use Rattle.std.proofs.Common.{◌∙◌, sym, ap, arith, le-leb}
 use Rattle.std.proofs.lemmas.List.Edits.{sets}
 use Rattle.std.proofs.lemmas.Bool.{lt-leb}
 use Rattle.std.proofs.lemmas.Nat.{pow_pos}
 use Rattle.std.proofs.Math.Nat.{pow-suc, pow-succ', mul_assoc, one-mul, le-mul_of_pos_right}
-use Rattle.port_tables.specs.ResizeLinks.{doubled, round_up, same_counts, fits_inside, drop_incoming, drop_links, drop_count, first_slot, drop_told, inside_links, anew_links}
-use Rattle.port_tables.specs.Tables.{cut, drop_events, at, cut_count, cut_range, fill_range, shift, transfer}
+use Rattle.port_tables.specs.ResizeLinks.{doubled, round_up, drop_incoming, drop_links, drop_count, first_slot, drop_told}
+use Rattle.port_tables.specs.Tables.{cut, drop_events, at, cut_count, cut_range}
 use Rattle.port_tables.specs.declared.node_entry.NodeMeta.{NodeMeta}
 use Rattle.port_tables.specs.TableSteps.{link_count_at_most_one}
 
@@ -68,40 +68,6 @@ length_drop_events t p (suc n) = let h = length_drop_events (cut t p) (suc p) n 
 
 -- Single steps of the code.
 
--- the doublings that are left from a power on, enough of them, give the rounded total
-abbrev pub Doubling : ℕ → ℕ → Type 0
-Doubling p n = (0 < p) × ((t : ℕ) × (n ≤ p + t) × (doubled t p n ≡ round_up n))
-
-pub round_up_starts : (n : ℕ) → Doubling 1 n
-unfolding round_up
-round_up_starts n = (omega arith, (n, omega arith, refl))
-
-pub round_up_turn : (p n : ℕ) → p < n → Doubling p n → Doubling (p * 2) n
-round_up_turn p n l d = go d.1.0 d.1.1 d.1.2
-  where
-    go : (t : ℕ) → n ≤ p + t → doubled t p n ≡ round_up n → Doubling (p * 2) n
-    go zero h e = absurd (omega arith)
-    go (suc t) h e = let some = d.0 in (omega arith, (t, omega arith, sym (doubled_more t p n l) ∙ e))
-
-pub round_up_ends : (p n : ℕ) → n ≤ p → Doubling p n → p ≡ round_up n
-round_up_ends p n h d = sym (doubled_enough d.1.0 p n h) ∙ d.1.2
-
-pub same_counts_first : (m : NodeMeta) (i o r s : ℕ) → r ≡ m.incoming → s ≡ m.outgoing → i ≡ r → eqb o s ≡ same_counts m i o
-unfolding same_counts
-same_counts_first m i o r s e f h = rw (f, eq-eqb i m.incoming (h ∙ e))
-
-pub same_counts_not : (m : NodeMeta) (i o r : ℕ) → r ≡ m.incoming → (i ≡ r → ⊥) → false ≡ same_counts m i o
-unfolding same_counts
-same_counts_not m i o r e h = rw (ne_eqb i m.incoming (λ x. h (x ∙ sym e)))
-
-pub fits_if_below : (m : NodeMeta) (i o r : ℕ) → r ≡ m.capacity → 0 < i + o → ltb (i + o) r ≡ fits_inside m i o
-unfolding fits_inside
-fits_if_below m i o r e h = rw (e, lt-ltb 0 (i + o) h)
-
-pub fits_not_empty : (m : NodeMeta) (i o : ℕ) → i + o ≤ 0 → false ≡ fits_inside m i o
-unfolding fits_inside
-fits_not_empty m i o h = rw (le-ltb 0 (i + o) h)
-
 cut_count_small : (t : List ℕ) (p n : ℕ) → cut_count t p n ≤ n
 unfolding cut_count
 cut_count_small t p zero = omega arith
@@ -139,22 +105,3 @@ drop_both_done t t' t'' b b' b'' m i o f oi oo ki ko a z ef ei eo eki eko first 
       rw (← ef, ← ei, ← eo, ← eki, ← eko, ← first.1)
           (told_after b b' b'' (oi - ki) (drop_events t (f + ki) (oi - ki)) (drop_events t' (f + oi + ko) (oo - ko)) (length_drop_events t (f + ki) (oi - ki)) first.2 second.2),
     )
-
-pub inside_links_done : (t t₁ t₂ t₃ t₄ : List ℕ) (m : NodeMeta) (i o f oi oo ko x y z : ℕ)
-    → f ≡ first_slot m → oi ≡ m.incoming → oo ≡ m.outgoing → ko ≡ min oo o
-    → t₁ ≡ shift t (ltb i oi) (f + oi) (f + i) ko
-    → x ≡ i - oi → t₂ ≡ fill_range t₁ (f + oi) x 0
-    → y ≡ o - oo → t₃ ≡ fill_range t₂ (f + i + oo) y 0
-    → z ≡ (oi + oo) - (i + o) → t₄ ≡ fill_range t₃ (f + (i + o)) z 0
-    → t₄ ≡ inside_links t m i o
-unfolding inside_links
-inside_links_done t t₁ t₂ t₃ t₄ m i o f oi oo ko x y z ef ei eo eko e₁ ex e₂ ey e₃ ez e₄ =
-    rw (← ef, ← ei, ← eo, ← eko, e₄, e₃, e₂, e₁, ex, ey, ez)
-
-pub anew_links_done : (t t₁ t₂ t₃ : List ℕ) (m : NodeMeta) (i o f oi oo ki ko first size : ℕ)
-    → f ≡ first_slot m → oi ≡ m.incoming → oo ≡ m.outgoing → ki ≡ min oi i → ko ≡ min oo o
-    → t₁ ≡ fill_range t first size 0 → t₂ ≡ transfer t₁ f first ki → t₃ ≡ transfer t₂ (f + oi) (first + i) ko
-    → t₃ ≡ anew_links t m i o first size
-unfolding anew_links
-anew_links_done t t₁ t₂ t₃ m i o f oi oo ki ko first size ef ei eo eki eko e₁ e₂ e₃ =
-    rw (← ef, ← ei, ← eo, ← eki, ← eko, e₃, e₂, e₁)

@@ -1,14 +1,17 @@
 -- What single steps and single turns of a loop do to the port tables.
 -- A law of a step says which definition its stores amount to; a law of a turn takes one port off the work that is left.
-use Rattle.std.specs.Prelude.{◌≡◌, refl, List, [], ◌∷◌, ◌++◌, Bool, true, false, cond, ℕ, ◌<◌, ◌≤◌, zero, suc, ◌+◌, ◌-◌, ◌*◌, get_or, set, length, take, drop, eqb}
-use Rattle.std.proofs.Common.{ap, arith, length-drop, suc-add, zero-add, add-zero, lt-ltb, le-ltb, le-leb, ne_eqb, eq-eqb}
+use Rattle.std.specs.Prelude.{◌≡◌, refl, List, [], ◌∷◌, ◌++◌, Bool, true, false, cond, ℕ, ◌<◌, ◌≤◌, zero, suc, ◌+◌, ◌-◌, ◌*◌, get_or, set, length, take, drop, eqb, Option, Some, None, Result, Ok, Err}
+use Rattle.std.specs.Option.{ok_or}
+use Rattle.std.specs.Result.{IsErrAnd}
+use Rattle.std.proofs.lemmas.Result.{err_from_is_err_and}
+use Rattle.std.proofs.Common.{ap, ◌∙◌, arith, length-drop, suc-add, zero-add, add-zero, lt-ltb, le-ltb, le-leb, ne_eqb, eq-eqb}
 use Rattle.std.proofs.Math.ListN.{replicate}
 use Rattle.std.proofs.lemmas.List.Edits.{sets}
 use Rattle.std.proofs.lemmas.Bool.{lt-leb}
 use Rattle.std.proofs.Math.Seq.{length-take-le}
 use Rattle.std.proofs.Math.Nat.{sub-zero}
-use Rattle.port_tables.specs.Limits.{port_slots, node_ports, no_port}
-use Rattle.port_tables.specs.Tables.{at, put, head_at, put_head, fill, fill_range, link_both, cut_far, cut, link_count, told_link, relink, move_port, chain_block, cut_range, cut_count, move_up, transfer, drop_events, move_up_events, move_down_events, move_down, shift, shift_events, moved_at}
+use Rattle.port_tables.specs.Limits.{port_slots, no_port}
+use Rattle.port_tables.specs.Tables.{at, put, put_head, fill, fill_range, link_both, cut_far, cut, link_count, told_link, move_port, chain_block, cut_range, cut_count, move_up, transfer, drop_events, move_up_events, move_down_events, move_down, shift, shift_events, moved_at}
 
 -- Reading and storing.
 pub at_inside : (t : List ℕ) (s : ℕ) → s < port_slots → get_or t s 0 ≡ at t s
@@ -27,22 +30,6 @@ pub put_outside : (t : List ℕ) (s v : ℕ) → port_slots ≤ s → t ≡ put 
 unfolding put
 put_outside t s v h = rw (le-ltb s port_slots h)
 
-pub head_inside : (t : List ℕ) (n : ℕ) → n ≤ node_ports → get_or t n 0 ≡ head_at t n
-unfolding head_at
-head_inside t n h = rw (le-leb n node_ports h)
-
-pub head_outside : (t : List ℕ) (n : ℕ) → node_ports < n → 0 ≡ head_at t n
-unfolding head_at
-head_outside t n h = rw (lt-leb n node_ports h)
-
-pub put_head_inside : (t : List ℕ) (n v : ℕ) → 0 < n → n ≤ node_ports → set t n v ≡ put_head t n v
-unfolding put_head
-put_head_inside t n v l h = rw (lt-ltb 0 n l, le-leb n node_ports h)
-
-pub put_head_outside : (t : List ℕ) (n v : ℕ) → node_ports < n → t ≡ put_head t n v
-unfolding put_head
-put_head_outside t n v h = let l : 0 < n = omega arith in rw (lt-ltb 0 n l, lt-leb n node_ports h)
-
 pub put_head_nothing : (t : List ℕ) (n v : ℕ) → n ≤ 0 → t ≡ put_head t n v
 unfolding put_head
 put_head_nothing t n v h = rw (le-ltb 0 n h)
@@ -60,9 +47,6 @@ fill_more [] i k v = refl
 fill_more (x ∷ l) zero zero v = ap (λ r. v ∷ r) (fill_none l 0 v)
 fill_more (x ∷ l) zero (suc k) v = rw zero-add (ap (λ r. v ∷ r) (rw zero-add at (fill_more l zero k v)))
 fill_more (x ∷ l) (suc i) k v = rw suc-add (ap (λ r. x ∷ r) (fill_more l i k v))
-
-pub fill_turn : (t : List ℕ) (i k v : ℕ) → set (fill t i k v) (i + k) v ≡ fill t i (k + 1) v
-fill_turn t i k v = let e : k + 1 ≡ suc k = omega arith in rw e (fill_more t i k v)
 
 -- the list with a part of n elements, all of them v, in the place of those that stood there
 pub fill_part {ℓ} : {A : Type ℓ} (t : List A) (i n : ℕ) (v : A) → i + n ≤ length t → take i t ++ (replicate n v ++ drop n (drop i t)) ≡ fill t i n v
@@ -93,29 +77,13 @@ pub linked_both : (t : List ℕ) (a b : ℕ) → a < port_slots → b < port_slo
 unfolding link_both
 linked_both t a b h l = rw (lt-ltb a port_slots h, lt-ltb b port_slots l)
 
-pub linked_none_first : (t : List ℕ) (a b : ℕ) → port_slots ≤ a → t ≡ link_both t a b
-unfolding link_both
-linked_none_first t a b h = rw (le-ltb a port_slots h)
-
-pub linked_none_second : (t : List ℕ) (a b : ℕ) → a < port_slots → port_slots ≤ b → t ≡ link_both t a b
-unfolding link_both
-linked_none_second t a b h l = rw (lt-ltb a port_slots h, le-ltb b port_slots l)
-
 pub cut_both : (t : List ℕ) (p far : ℕ) → far ≡ at t p → (far ≡ 0 → ⊥) → put (put t p 0) (far - 1) 0 ≡ cut t p
 unfolding cut cut_far
 cut_both t p far e h = rw (← e, ne_eqb far 0 h)
 
-pub cut_nothing : (t : List ℕ) (p far : ℕ) → far ≡ at t p → far ≡ 0 → t ≡ cut t p
-unfolding cut cut_far
-cut_nothing t p far e h = rw (← e, eq-eqb far 0 h)
-
 pub link_count_none : (far : ℕ) → far ≡ 0 → 0 ≡ link_count far
 unfolding link_count
 link_count_none far h = rw (eq-eqb far 0 h)
-
-pub link_count_one : (far : ℕ) → (far ≡ 0 → ⊥) → 1 ≡ link_count far
-unfolding link_count
-link_count_one far h = rw (ne_eqb far 0 h)
 
 pub link_count_at_most_one : (far : ℕ) → link_count far ≤ 1
 unfolding link_count
@@ -133,21 +101,9 @@ pub told_far : (far : ℕ) → (far ≡ 0 → ⊥) → far - 1 ≡ told_link far
 unfolding told_link
 told_far far h = rw (ne_eqb far 0 h)
 
-pub moved_with_link : (t : List ℕ) (old new far : ℕ) → far ≡ at t old → (far ≡ 0 → ⊥) → put (put t new far) (far - 1) (new + 1) ≡ move_port t old new
-unfolding move_port relink
-moved_with_link t old new far e h = rw (← e, ne_eqb far 0 h)
-
-pub moved_alone : (t : List ℕ) (old new far : ℕ) → far ≡ at t old → far ≡ 0 → put t new far ≡ move_port t old new
-unfolding move_port relink
-moved_alone t old new far e h = rw (← e, eq-eqb far 0 h)
-
 pub chained : (t : List ℕ) (first size head : ℕ) → (size ≡ 0 → ⊥) → put t first head ≡ chain_block t first size head
 unfolding chain_block
 chained t first size head h = rw (ne_eqb size 0 h)
-
-pub chained_nothing : (t : List ℕ) (first size head : ℕ) → size ≡ 0 → t ≡ chain_block t first size head
-unfolding chain_block
-chained_nothing t first size head h = rw (eq-eqb size 0 h)
 
 -- an event is three stores in a row
 pub stored_event : (m : List ℕ) (e a b d : ℕ) → set (set (set m e a) (e + 1) b) (e + 2) d ≡ sets m e (a ∷ b ∷ d ∷ [])
@@ -280,13 +236,22 @@ pub shift_events_done : (k n : ℕ) → n ≤ k → (m : List ℕ) (i : ℕ) (as
 shift_events_done k n h m i true old new = move_up_events_done k n h m i (old + k) (new + k)
 shift_events_done k n h m i false old new = move_down_events_done k n h m i old new
 
-pub no_link_less : (n far : ℕ) → far ≡ 0 → n ≡ n - link_count far
-unfolding link_count
-no_link_less n far e = rw (eq-eqb far 0 e) (omega arith)
-
 pub one_link_less : (n far r : ℕ) → (far ≡ 0 → ⊥) → r ≡ n - 1 → r ≡ n - link_count far
 unfolding link_count
 one_link_less n far r e f = rw (ne_eqb far 0 e) f
+
+-- what `ok_or` gives, of the option
+pub or_told : {A E : Type 0} (o : Option A) (z : E) (x : A) {r : Result A E} → r ≡ ok_or o z → r ≡ Ok x → o ≡ Some x
+or_told (Some y) z x e f = let g : y ≡ x = cc in ap Some g
+or_told None z x e f = cc
+
+pub or_lacking : {A E : Type 0} (o : Option A) (z w : E) {r : Result A E} → r ≡ ok_or o z → r ≡ Err w → (o ≡ None) × (w ≡ z)
+or_lacking (Some y) z w e f = cc
+or_lacking None z w e f = (refl, cc)
+
+-- what `?` passes on
+pub passed_on : {A E : Type 0} {r : Result A E} {e : E} → IsErrAnd r (λ y. y ≡ e) → r ≡ Err e
+passed_on {r} h = let p = err_from_is_err_and r h in p.1 ∙ ap Err p.2
 
 -- equal answers have equal numbers
 pub with_numbers : {A B : Type 0} (f : A → B) {x y : A} → x ≡ y → (x ≡ y) × (f x ≡ f y)

@@ -2,7 +2,7 @@
 -- A number that stands for a port or a node in a table is one higher than it; 0 is none.
 use Rattle.std.specs.Prelude.{List, [], ◌∷◌, cond, Bool, ℕ, zero, suc, ◌+◌, ◌-◌, ◌≤◌, ◌<◌, ltb, leb, eqb, get_or, set}
 use Rattle.port_tables.specs.Limits.{port_slots, node_ports, no_port}
-use Rattle.port_tables.specs.Entries.{owner_number}
+use Rattle.port_tables.specs.Entries.{owner_number, port_entry, node_of, node_number}
 use Rattle.port_tables.specs.declared.direction.Direction.TheVariants.{Incoming, Outgoing}
 use Rattle.port_tables.specs.declared.node_entry.NodeMeta.{NodeMeta}
 use Rattle.port_tables.specs.declared.tables.Shift.{Shift}
@@ -10,6 +10,14 @@ use Rattle.port_tables.specs.declared.tables.Shift.{Shift}
 -- what a port table holds at a slot; 0 outside
 unfoldable pub at : List ℕ → ℕ → ℕ
 at t s = cond (ltb s port_slots) (get_or t s 0) 0
+
+-- the slot that a slot is linked with; 0 for none
+unfoldable pub far_in : List ℕ → ℕ → ℕ
+far_in links s = at links s - 1
+
+-- the node that has a port; 0 for a port that is not live
+unfoldable pub owner_in : List ℕ → ℕ → ℕ
+owner_in owners p = node_number (node_of (port_entry (at owners p)))
 
 -- the table with a number stored at a slot; outside nothing changes
 unfoldable pub put : List ℕ → ℕ → ℕ → List ℕ

@@ -10,6 +10,10 @@ pub const NODE_SLOTS: usize = 1024;
 pub const PORT_SLOTS: usize = 3072;
 // The most ports that a node may have, and the largest block.
 pub const NODE_PORTS: usize = 1024;
+// Numbers of a move list that no resize is refused with: three for each port of the largest node.
+pub const MOVES: usize = 3 * NODE_PORTS;
+// The most wires: each takes two port slots.
+pub const MOST_WIRES: usize = PORT_SLOTS / 2;
 // Free lists of blocks, one for each size from 0; that of size 0 stays empty.
 pub const FREE_LISTS: usize = NODE_PORTS + 1;
 
@@ -20,6 +24,13 @@ pub struct NodeIndex(pub u32);
 // The number of a port.
 #[derive(Clone, Copy, PartialEq, Eq)]
 pub struct PortIndex(pub u32);
+
+// Port numbers from one on, the end excluded. No Range of the library: a cursor that holds one is copied, and a Range is not.
+#[derive(Clone, Copy)]
+pub struct PortRange {
+    pub from: u32,
+    pub to: u32,
+}
 
 // A port's place within its node: the direction, and the position on that side.
 #[derive(Clone, Copy)]

@@ -81,22 +81,14 @@ pub fn put_slot(nodes: &mut [u32; NODE_WORDS], n: usize, slot: NodeSlot)
 
 // The next free entry after one; 0 for none, and for a node.
 // A table's word stays as it is held, one higher than the number, 0 for none: it is stored again as it is, and the definitions read it so.
-#[tactic(auto, unfolding(crate::specs::NodeWords::slot_in, crate::specs::NodeWords::slot_of_words))]
 pub fn next_in(nodes: &[u32; NODE_WORDS], n: usize) -> u32
     ensures { result ≡ next_of (slot_in nodes.now n).entry }
 {
-    if NODE_SLOTS <= n {
-        return 0;
-    }
-    let k = 5 * n;
-    if nodes[k] == 0 {
-        narrow(nodes[k + 2]) as u32
-    } else {
-        0
-    }
+    slot_in(nodes, n).next_free()
 }
 
 // Gives a free entry another neighbour before it; a node stays as it is, and outside nothing changes.
+// Stays beside put_slot, which would write five words where one changes.
 pub fn put_prev(nodes: &mut [u32; NODE_WORDS], n: usize, prev: u16)
     ensures { (slots_in nodes.new ≡ put_slot (slots_in nodes.old) n (with_prev (slot_in nodes.old n) prev)) × StaysCanonical nodes.old nodes.new }
 {
@@ -112,10 +104,5 @@ pub fn put_prev(nodes: &mut [u32; NODE_WORDS], n: usize, prev: u16)
 pub fn meta_in(nodes: &[u32; NODE_WORDS], node: u32) -> Option<NodeMeta>
     ensures { result ≡ meta_in nodes.now node }
 {
-    let slot = slot_in(nodes, wide(node));
-    let entry = slot.entry;
-    let NodeEntry::Node(meta) = entry else {
-        return None;
-    };
-    Some(meta)
+    slot_in(nodes, wide(node)).meta()
 }

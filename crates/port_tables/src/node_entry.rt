@@ -1,6 +1,6 @@
 // What the node table holds: a node with its block of slots, or a free entry with its two neighbours in the list of free entries.
 ghost use Rattle.std.specs.Prelude.{◌≡◌, ◌+◌};
-ghost use Rattle.port_tables.specs.Entries.{is_node, next_of, with_prev, free_slot_of, node_slot_of, ports_on};
+ghost use Rattle.port_tables.specs.Entries.{is_node, next_of, with_prev, free_slot_of, node_slot_of, meta_of_entry, ports_on};
 
 use crate::direction::Direction;
 use crate::index::PortIndex;
@@ -100,10 +100,17 @@ impl NodeSlot {
     pub fn is_node(self) -> bool
         ensures { result ≡ is_node self.entry }
     {
+        self.meta().is_some()
+    }
+
+    // The meta data of the node that is stored here, if one is.
+    pub fn meta(self) -> Option<NodeMeta>
+        ensures { result ≡ meta_of_entry self.entry }
+    {
         let entry = self.entry;
         match entry {
-            NodeEntry::Free(_) => false,
-            NodeEntry::Node(_) => true,
+            NodeEntry::Free(_) => None,
+            NodeEntry::Node(meta) => Some(meta),
         }
     }
 
@@ -125,10 +132,7 @@ impl NodeSlot {
         let entry = self.entry;
         match entry {
             NodeEntry::Free(free) => NodeSlot {
-                entry: NodeEntry::Free(FreeNodeEntry {
-                    prev: prev,
-                    next: free.next,
-                }),
+                entry: NodeEntry::Free(FreeNodeEntry { prev, ..free }),
             },
             NodeEntry::Node(_) => self,
         }

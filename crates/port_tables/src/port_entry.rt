@@ -1,7 +1,7 @@
 // What the table of port owners holds. An entry is a number, so that the table can be lent:
 // 0 for a free slot, else the node's number doubled, and 1 more for an incoming port, 2 for an outgoing one.
 ghost use Rattle.std.specs.Prelude.{◌≡◌};
-ghost use Rattle.port_tables.specs.Entries.{port_entry, port_entry_numbers};
+ghost use Rattle.port_tables.specs.Entries.{port_entry, port_entry_numbers, port_of_entry};
 
 use crate::direction::Direction;
 use crate::index::NodeIndex;
@@ -33,16 +33,21 @@ impl PortEntry {
             return PortEntry::Free;
         }
         let node = NodeIndex((entry - 1) / 2);
-        if (entry - 1) % 2 == 0 {
-            PortEntry::Port(PortMeta {
-                node: node,
-                direction: Direction::Incoming,
-            })
+        let direction = if (entry - 1) % 2 == 0 {
+            Direction::Incoming
         } else {
-            PortEntry::Port(PortMeta {
-                node: node,
-                direction: Direction::Outgoing,
-            })
+            Direction::Outgoing
+        };
+        PortEntry::Port(PortMeta { node, direction })
+    }
+
+    // The meta data of the port that is stored here, if one is.
+    pub fn meta(self) -> Option<PortMeta>
+        ensures { result ≡ port_of_entry self }
+    {
+        match self {
+            PortEntry::Free => None,
+            PortEntry::Port(meta) => Some(meta),
         }
     }
 }

@@ -15,10 +15,7 @@ use crate::tables::{Shift, drop_ports, fill};
 pub fn too_many_ports(incoming: usize, outgoing: usize) -> bool
     ensures { result ≡ ltb node_ports (incoming + outgoing) }
 {
-    if NODE_PORTS < incoming {
-        return true;
-    }
-    NODE_PORTS - incoming < outgoing
+    NODE_PORTS < incoming || NODE_PORTS - incoming < outgoing
 }
 
 // A total rounded up to a power of two; 1 for a total of 0.
@@ -31,6 +28,7 @@ pub fn round_up(total: usize) -> usize
 }
 
 // A node's meta data, and the counts that it is to have. The node stays beside: no method here reads it.
+// BlockWithin stays a clause, as what is said of NodeMeta: a slot may hold any numbers.
 #[derive(Clone, Copy)]
 pub struct Resize {
     pub meta: NodeMeta,
@@ -44,10 +42,8 @@ impl Resize {
     pub fn is_same(self) -> bool
         ensures { result ≡ same_counts self.meta self.incoming self.outgoing }
     {
-        if self.incoming == usize::from(self.meta.incoming) {
-            return self.outgoing == usize::from(self.meta.outgoing);
-        }
-        false
+        self.incoming == usize::from(self.meta.incoming)
+            && self.outgoing == usize::from(self.meta.outgoing)
     }
 
     // Whether these counts are done within the node's block.
@@ -57,10 +53,7 @@ impl Resize {
         ensures { result ≡ fits_inside self.meta self.incoming self.outgoing }
     {
         let total = self.incoming + self.outgoing;
-        if 0 < total {
-            return total < usize::from(self.meta.capacity);
-        }
-        false
+        0 < total && total < usize::from(self.meta.capacity)
     }
 
     // The node's new meta data, with a block from `first` on.
@@ -114,7 +107,8 @@ impl Resize {
         }
     }
 
-    // Drops the highest positions of each side, incoming ones first, and answers how many links there were.
+    // Drops the highest positions of each side, incoming ones first, and answers how many links there were. Each side's are a first port and a number here and
+    // where else they are dropped, not a range, which would be taken apart again.
     pub fn drop_both(self, links: &mut [u32; PORT_SLOTS], moves: &mut [u32]) -> usize
         requires { BlockWithin self.meta }
         ensures { (result ≡ drop_count links.old self.meta self.incoming self.outgoing)

@@ -19,11 +19,8 @@ pub fn ports_from(meta: NodeMeta, sides: Sides) -> usize
 {
     let first = wide(meta.first_port.0);
     match sides {
-        Sides::One(direction) => match direction {
-            Direction::Incoming => first,
-            Direction::Outgoing => first + usize::from(meta.incoming),
-        },
-        Sides::Both => first,
+        Sides::One(Direction::Outgoing) => first + usize::from(meta.incoming),
+        Sides::One(Direction::Incoming) | Sides::Both => first,
     }
 }
 
@@ -33,10 +30,7 @@ pub fn ports_to(meta: NodeMeta, sides: Sides) -> usize
 {
     let end = wide(meta.first_port.0) + usize::from(meta.incoming);
     match sides {
-        Sides::One(direction) => match direction {
-            Direction::Incoming => end,
-            Direction::Outgoing => end + usize::from(meta.outgoing),
-        },
-        Sides::Both => end + usize::from(meta.outgoing),
+        Sides::One(Direction::Incoming) => end,
+        Sides::One(Direction::Outgoing) | Sides::Both => end + usize::from(meta.outgoing),
     }
 }

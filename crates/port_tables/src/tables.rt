@@ -3,7 +3,7 @@
 ghost use Rattle.std.specs.Prelude.{◌≡◌, ◌+◌, ◌-◌, ◌*◌, ◌≤◌, ◌<◌, set, [], ◌∷◌};
 ghost use Rattle.std.proofs.lemmas.List.Edits.{sets};
 ghost use Rattle.port_tables.specs.Limits.{port_slots};
-ghost use Rattle.port_tables.specs.Tables.{at, put, fill_range, head_at, put_head, own_block, link_both, cut, cut_range, cut_count, link_count, move_port, shift, transfer, chain_block, told_link, drop_events, shift_events, moved_at, BlockWithin, ShiftFits};
+ghost use Rattle.port_tables.specs.Tables.{at, far_in, owner_in, put, fill_range, head_at, put_head, own_block, link_both, cut, cut_range, cut_count, link_count, move_port, shift, transfer, chain_block, told_link, drop_events, shift_events, moved_at, BlockWithin, ShiftFits};
 
 use crate::index::{FREE_LISTS, NODE_PORTS, PORT_SLOTS};
 use crate::node_entry::NodeMeta;
@@ -14,10 +14,26 @@ use crate::numbers::wide;
 pub fn at(table: &[u32; PORT_SLOTS], slot: usize) -> u32
     ensures { result ≡ at table.now slot }
 {
-    if slot < PORT_SLOTS { table[slot] } else { 0 }
+    table.get(slot).copied().unwrap_or(0)
 }
 
-// Stores a number at a slot; outside nothing changes.
+// The slot that a slot is linked with; 0 for none, which no caller asks for.
+#[tactic(auto, unfolding(crate::specs::Tables::far_in))]
+pub fn far_in(links: &[u32; PORT_SLOTS], slot: usize) -> u32
+    ensures { result ≡ far_in links.now slot }
+{
+    at(links, slot).saturating_sub(1)
+}
+
+// The node that has a port; 0 for a port that is not live, which no caller asks for.
+#[tactic(auto, unfolding(crate::specs::Tables::owner_in, crate::specs::Entries::port_entry))]
+pub fn owner_in(owners: &[u32; PORT_SLOTS], port: u32) -> u32
+    ensures { result ≡ owner_in owners.now port }
+{
+    at(owners, wide(port)).saturating_sub(1) / 2
+}
+
+// Stores a number at a slot; outside nothing changes. Stays beside `store`: each says its own table's definition.
 #[tactic(auto, unfolding(crate::specs::Tables::put))]
 pub fn put(table: &mut [u32; PORT_SLOTS], slot: usize, value: u32)
     ensures { table.new ≡ put table.old slot value }
@@ -27,19 +43,15 @@ pub fn put(table: &mut [u32; PORT_SLOTS], slot: usize, value: u32)
     }
 }
 
-// The number of links after one is cut, by what the link table held; no link is one that was there.
-#[tactic(auto, unfolding(crate::specs::Tables::link_count))]
+// The number of links after one is cut, by what the link table held; no link is one that was there. Each call counts so beside its cut: a cut that counts
+// would have to say of every other table that it stays.
 pub fn without_link(count: usize, far: u32) -> usize
     ensures { result ≡ count - link_count far }
 {
-    if far == 0 {
-        count
-    } else {
-        count.saturating_sub(1)
-    }
+    count.saturating_sub(link_count(far))
 }
 
-// Sets `count` slots from `first` on; a range that runs past the table is left alone.
+// Sets `count` slots from `first` on; a range that runs past the table is left alone. Takes both as a block's meta data has them: half the callers hand these on.
 pub fn fill(table: &mut [u32; PORT_SLOTS], first: u32, count: u16, value: u32)
     ensures { table.new ≡ fill_range table.old first count value }
 {
@@ -56,7 +68,7 @@ pub fn fill(table: &mut [u32; PORT_SLOTS], first: u32, count: u16, value: u32)
 pub fn head_at(heads: &[u32; FREE_LISTS], size: usize) -> u32
     ensures { result ≡ head_at heads.now size }
 {
-    if size <= NODE_PORTS { heads[size] } else { 0 }
+    heads.get(size).copied().unwrap_or(0)
 }
 
 // Makes another block the first free one of its size.
@@ -64,10 +76,8 @@ pub fn head_at(heads: &[u32; FREE_LISTS], size: usize) -> u32
 pub fn put_head(heads: &mut [u32; FREE_LISTS], size: usize, value: u32)
     ensures { heads.new ≡ put_head heads.old size value }
 {
-    if 0 < size {
-        if size <= NODE_PORTS {
-            heads[size] = value;
-        }
+    if 0 < size && size <= NODE_PORTS {
+        heads[size] = value;
     }
 }
 
@@ -92,11 +102,9 @@ pub fn own_block(owners: &mut [u32; PORT_SLOTS], node: u32, meta: NodeMeta)
 pub fn link_both(links: &mut [u32; PORT_SLOTS], a: u32, b: u32)
     ensures { links.new ≡ link_both links.old a b }
 {
-    if wide(a) < PORT_SLOTS {
-        if wide(b) < PORT_SLOTS {
-            put(links, wide(a), b + 1);
-            put(links, wide(b), a + 1);
-        }
+    if wide(a) < PORT_SLOTS && wide(b) < PORT_SLOTS {
+        put(links, wide(a), b + 1);
+        put(links, wide(b), a + 1);
     }
 }
 
@@ -119,7 +127,7 @@ pub fn cut(links: &mut [u32; PORT_SLOTS], port: usize) -> u32
 pub fn link_count(far: u32) -> usize
     ensures { result ≡ link_count far }
 {
-    if far == 0 { 0 } else { 1 }
+    usize::from(far != 0)
 }
 
 // Cuts the links of `count` ports from `first` on, one after the other, and answers how many there were.
@@ -184,10 +192,11 @@ fn put_event(moves: &mut [u32], event: u32, port: u32, kind: u32, number: u32)
 fn told_link(far: u32) -> u32
     ensures { result ≡ told_link far }
 {
-    if far == 0 { 4294967295 } else { far - 1 }
+    far.checked_sub(1).unwrap_or(u32::MAX)
 }
 
 // Cuts the links of `count` ports from `first` on as ports that are removed, tells each, and answers how many links there were.
+// The place of an event stays beside the list: a list lent from that place on would have to be long enough.
 pub fn drop_ports(
     links: &mut [u32; PORT_SLOTS],
     moves: &mut [u32],

@@ -1,4 +1,4 @@
--- A change of counts in the steps that the calls over lent tables share: a new block is taken, the dropped ports are cut, and
+-- A change of counts in the steps that the calls on a lent graph share: a new block is taken, the dropped ports are cut, and
 -- then the node and the ports that stay take their places. That these steps are `resize_inside` and `resize_anew` is proved here
 -- and in ResizeLaws (anew_in_steps).
 use Rattle.std.specs.Prelude.{◌≡◌, refl, ℕ, ◌+◌, ◌-◌, set}

@@ -1,5 +1,6 @@
 -- Laws of the walks over links and over all ports: from its start a walk gives the whole listing, in order, and comes to its end.
 -- Each item is a link of the model; a cursor whose node or port is gone ends the walk.
+use Rattle.port_tables.specs.Listing.{range_member}
 use Rattle.std.proofs.Math.Path.{◌≡◌, refl, sym, ap}
 use Rattle.std.proofs.Common.{◌∙◌, inl, inr}
 use Rattle.std.specs.Prelude.{Bool, ◌⊎◌, ℕ, zero, suc, ◌+◌, ◌-◌, ◌≤◌, ◌<◌, max, eqb, leb, Option, Some, None}
@@ -10,13 +11,13 @@ use Rattle.std.proofs.Math.Dec.{ltb}
 use borrow.Author.Tests.{ne_eqb, eqb-true, ltb-true, ltb-false}
 use Rattle.port_tables.specs.Limits.{port_slots, node_ports}
 use Rattle.port_tables.specs.Lists.{Member, Once, range, filter, on_first}
-use Rattle.port_tables.specs.Entries.{port_entry, node#, port#, node_of, ports_from, ports_to}
-use Rattle.port_tables.specs.Tables.{at}
+use Rattle.port_tables.specs.Entries.{port_entry, node#, port#, node_of, node_number, ports_from, ports_to}
+use Rattle.port_tables.specs.Tables.{at, far_in, owner_in}
 use Rattle.portgraph.specs.Model.{Model, Good, Holds, to, Slots, gone, live, Valid, slot_of, far_number, count_of, side_start, InnerPlace}
 use Rattle.portgraph.specs.Lookups.{meta_at, port_at, is_some, contains_node, is_port, contains_port}
 use Rattle.portgraph.specs.PlaceLaws.{meta_of_place, meta_of_node, port_of_place, slot_cases}
 use Rattle.portgraph.specs.WalkLaws.{Walked, whole, unfinished, more, ports_of_node, ports_alive, Ascending, ascending_once}
-use Rattle.portgraph.specs.LinkWalks.{beyond, far_in, node_number, owner_in, is_port_in, held_in, link_kept, is_node_of, is_of, link_to, ports_in, link_at, node_links, links_item, step_links, own_from, own_to, neighbour_at, neighbours, neighbours_item, step_neighbours, connections, connections_item, step_connections, all_ports, all_ports_item, step_all_ports}
+use Rattle.portgraph.specs.LinkWalks.{beyond, is_port_in, held_in, link_kept, is_node_of, is_of, link_to, ports_in, link_at, node_links, links_item, step_links, own_from, own_to, neighbour_at, neighbours, neighbours_item, step_neighbours, connections, connections_item, step_connections, all_ports, all_ports_item, step_all_ports}
 use Rattle.port_tables.specs.TableSteps.{at_outside}
 use Rattle.portgraph.specs.LinkWalkSteps.{filter_beyond, all_beyond, no_node_no_step}
 use Rattle.port_tables.specs.declared.direction.Direction.{Direction}
@@ -181,7 +182,7 @@ walk_all_ports g zero c = unfinished
 walk_all_ports g (suc fuel) c = after_any_port (walk_all_ports g fuel) (step_all_ports g c)
 
 abbrev pub links_cursor : ℕ → Sides → ℕ → ℕ → ℕ → NodeLinks
-links_cursor n sides lo hi held = record { node = node# n; sides = sides; skip_from = lo; skip_to = hi; held = held }
+links_cursor n sides lo hi held = record { node = node# n; sides = sides; skip = record { from = lo; to = hi }; held = held }
 
 abbrev pub neighbours_cursor : ℕ → Sides → Bool → ℕ → Neighbours
 neighbours_cursor n sides flag held = record { node = node# n; sides = sides; ignore_self = flag; held = held }
@@ -316,6 +317,7 @@ module _ (g : PortGraph) (M : Model) (good : Good M) (holds : Holds g M) where
 
   -- a linked port's item is the link between the two places' ports, and its neighbour is the node at the far end
   pub link_of_place : (x y : InnerPlace) → M.join x ≡ to y → link_at g (slot_of M.node x) ≡ record { from = port# (slot_of M.node x); to = port# (slot_of M.node y) }
+  unfolding far_in
   link_of_place x y e = let h = far_of_place x y e in ap (λ q. record { from = port# (slot_of M.node x); to = port# q }) h
     where
       far_of_place : (x y : InnerPlace) → M.join x ≡ to y → far_in g.port_link (slot_of M.node x) ≡ slot_of M.node y
@@ -459,21 +461,6 @@ filter_in f x (y ∷ l) i h = go (f y) refl (λ j. filter_in f x l j h) i
     go false e rest (inr j) = rest j
 filter_in f x [] i h = elim i [ ]
 
-pub in_numbers : (x p k : ℕ) → Member x (range p k) → (p ≤ x) × (x < p + k)
-unfolding range
-in_numbers x p zero i = absurd i
-in_numbers x p (suc k) (inl e) = (omega arith, omega arith)
-in_numbers x p (suc k) (inr j) = let r = in_numbers x (suc p) k j in let a = r.0 in let b = r.1 in (omega arith, omega arith)
-
-pub numbers_in : (x p k : ℕ) → p ≤ x → x < p + k → Member x (range p k)
-unfolding range
-numbers_in x p zero a b = absurd (omega arith)
-numbers_in x p (suc k) a b = go (ltb p x) refl (λ l. numbers_in x (suc p) k l (omega arith))
-  where
-    go : (c : Bool) → ltb p x ≡ c → (suc p ≤ x → Member x (range (suc p) k)) → (x ≡ p) ⊎ Member x (range (suc p) k)
-    go true e rest = let h : p < x = ltb-true _ _ e in inr (rest (omega arith))
-    go false e rest = let h : x ≤ p = ltb-false _ _ e in inl (omega arith)
-
 later_ascends : (n : ℕ) (l : List ℕ) → Ascending (suc n) l → Ascending n l
 later_ascends n [] a = a
 later_ascends n (x ∷ l) a = ((let b : suc n ≤ x = a.0 in omega arith), a.1)
@@ -502,7 +489,7 @@ module _ (g : PortGraph) where
 
   pub live_port_is_listed : (p : ℕ) → contains_port g p ≡ true → Member p (all_ports g)
   unfolding all_ports is_port_in port_entry
-  live_port_is_listed p h = filter_in (is_port_in g.port_meta) p _ (numbers_in p 0 port_slots (omega arith) (inside (ltb p port_slots) refl)) h
+  live_port_is_listed p h = filter_in (is_port_in g.port_meta) p _ (range_member p 0 port_slots (omega arith) (inside (ltb p port_slots) refl)) h
     where
       inside : (b : Bool) → ltb p port_slots ≡ b → p < 0 + port_slots
       inside true e = let l : p < port_slots = ltb-true _ _ e in omega arith

@@ -1,82 +1,95 @@
 -- What the code of a step finds: a search over consecutive slots stops at the first port of the listing beyond the port held.
-use Rattle.std.specs.Prelude.{◌≡◌, Bool, List, ◌∷◌, length, Option, Some, None}
+use Rattle.std.specs.Prelude.{◌≡◌, Bool, List, ◌∷◌, Option, Some, None, MatchOption, get_or}
 use Rattle.std.proofs.Math.Path.{refl, ap}
 use Rattle.std.proofs.Common.{sym, ◌∙◌, arith, add-one}
 use Rattle.std.proofs.Math.Bool.{true, false, cond}
-use Prim.Native.Nat.{ℕ, zero, suc, ◌+◌, ◌-◌, ◌/◌, ◌%◌, ◌≤◌, ◌<◌, max}
+use Prim.Native.Nat.{ℕ, zero, suc, ◌+◌, ◌-◌, ◌/◌, ◌≤◌, ◌<◌, max}
 use Rattle.std.proofs.Math.Dec.{eqb, leb, ltb}
-use borrow.Author.Tests.{lt-ltb, le-ltb, le-leb, lt-leb, eq-eqb, ne_eqb, leb-true, leb-false, eqb-true, eqb-false, ltb-true, ltb-false}
+use borrow.Author.Tests.{lt-ltb, le-ltb, le-leb, eq-eqb, ne_eqb, leb-true, leb-false, eqb-true, eqb-false, ltb-true, ltb-false}
 use Rattle.port_tables.specs.Limits.{node_slots, port_slots}
 use Rattle.port_tables.specs.Lists.{range, filter, on_first}
-use Rattle.port_tables.specs.Entries.{port_entry, node#, port#, meta_of_entry, ports_from, ports_to}
-use Rattle.port_tables.specs.Tables.{at}
+use Rattle.port_tables.specs.Entries.{is_node, fresh_slot, node#, port_entry, port#, ports_from, ports_to}
+use Rattle.port_tables.specs.Tables.{at, owner_in}
+use Rattle.port_tables.specs.ResizeLinks.{BlockFits}
 use Rattle.portgraph.specs.Model.{Wf}
-use Rattle.portgraph.specs.Lookups.{entry_at, meta_at, is_port}
-use Rattle.portgraph.specs.LookupSteps.{node_outside}
-use Rattle.portgraph.specs.WalkLaws.{ports_of_node, ports_end_inside}
-use Rattle.portgraph.specs.LinkWalks.{beyond, far_in, owner_in, is_port_in, held_in, is_kept, link_kept, is_of, link_to, ports_in, own_from, own_to, links_item, step_links, neighbours_item, step_neighbours, connections_item, step_connections, all_ports, all_ports_item, step_all_ports, first_where, before, span, ports_left, own_ports}
+use Rattle.portgraph.specs.Lookups.{meta_at}
+use Rattle.portgraph.specs.LookupSteps.{found_block_fits}
+use Rattle.portgraph.specs.WalkLaws.{ports_of_node}
+use Rattle.portgraph.specs.Walks.{node_from, node_held, step_nodes, port_held, ports_item, ports_beyond, step_ports}
+use Rattle.portgraph.specs.LinkWalks.{beyond, is_port_in, held_in, is_kept, link_kept, link_to, ports_in, own_from, own_to, own_ports, all_ports, all_ports_item, step_all_ports, first_where, before, node_left, ports_left}
 use Rattle.port_tables.specs.declared.direction.Direction.TheVariants.{Incoming, Outgoing}
 use Rattle.port_tables.specs.declared.node_entry.NodeMeta.{NodeMeta}
-use Rattle.port_tables.specs.declared.node_entry.FreeNodeEntry.{FreeNodeEntry}
-use Rattle.port_tables.specs.declared.port_entry.PortEntry.TheVariants as port_variants
-use Rattle.port_tables.specs.declared.node_entry.NodeEntry.{NodeEntry}
-use Rattle.port_tables.specs.declared.node_entry.NodeEntry.TheVariants.{Free, Node}
 use Rattle.portgraph.specs.declared.portgraph.PortGraph.{PortGraph}
 use Rattle.port_tables.specs.declared.sides.Sides.{Sides}
 use Rattle.port_tables.specs.declared.sides.Sides.TheVariants.{One, Both}
-use Rattle.portgraph.specs.declared.link_iter.Span.{Span}
-use Rattle.portgraph.specs.declared.link_iter.NodeLinks.{NodeLinks}
-use Rattle.portgraph.specs.declared.link_iter.Neighbours.{Neighbours}
-use Rattle.portgraph.specs.declared.link_iter.NodeConnections.{NodeConnections}
+use Rattle.std.specs.declared.ops.Range.{Range}
+use Rattle.port_tables.specs.declared.index.PortRange.{PortRange}
+use Rattle.portgraph.specs.declared.iter.NodePorts.{NodePorts}
+use Rattle.portgraph.specs.declared.iter.Nodes.{Nodes}
+use Rattle.port_tables.specs.declared.index.NodeIndex.{NodeIndex}
+use Rattle.port_tables.specs.declared.node_entry.NodeSlot.{NodeSlot}
 use Rattle.portgraph.specs.declared.link_iter.Ports.{Ports}
 
--- A turn of a search.
+-- A search of a range by `find`.
 
-pub search_turn : (f : ℕ → Bool) (p end : ℕ) (b : Bool) → p < end → b ≡ f p → b ≡ false → first_where f (p + 1) (end - (p + 1)) ≡ first_where f p (end - p)
+-- none of the numbers of a range is one that is searched
+abbrev pub Passed : (ℕ → Bool) → ℕ → ℕ → Type 0
+Passed f p end = (k : ℕ) → p ≤ k → k < end → f k ≡ false
+
+where_none : (f : ℕ → Bool) (p n : ℕ) → Passed f p (p + n) → first_where f p n ≡ p + n
 unfolding first_where
-search_turn f p end b l h e = go (end - p) (end - (p + 1)) (p + 1) (omega arith) (omega arith)
-  where
-    on : (j : ℕ) → first_where f (suc p) j ≡ first_where f p (suc j)
-    on j = rw (sym h, e)
+where_none f p zero h = omega arith
+where_none f p (suc n) h =
+    let e = where_none f (suc p) n (λ k a b. h k (omega arith) (omega arith)) in
+    rw (h p (omega arith) (omega arith)) (omega arith)
 
-    go : (k j i : ℕ) → k ≡ suc j → i ≡ suc p → first_where f i j ≡ first_where f p k
-    go k j i a b = rw (a, b) (on j)
-
-pub search_stops : (f : ℕ → Bool) (p end : ℕ) (b : Bool) → p < end → b ≡ f p → b ≡ true → p ≡ first_where f p (end - p)
+where_some : (f : ℕ → Bool) (p n d : ℕ) → d < n → f (p + d) ≡ true → Passed f p (p + d) → first_where f p n ≡ p + d
 unfolding first_where
-search_stops f p end b l h e = go (end - p) (end - (p + 1)) (omega arith)
-  where
-    here : (j : ℕ) → p ≡ first_where f p (suc j)
-    here j = rw (sym h, e)
+where_some f p zero d b e h = absurd (omega arith)
+where_some f p (suc n) zero b e h = let z : p + 0 ≡ p = omega arith in rw (z, rw z at e) refl
+where_some f p (suc n) (suc d) b e h =
+    let s : p + suc d ≡ suc p + d = omega arith in
+    rw (h p (omega arith) (omega arith), s) (where_some f (suc p) n d (omega arith) (rw s at e) (λ k a g. h k (omega arith) (omega arith)))
 
-    go : (k j : ℕ) → k ≡ suc j → p ≡ first_where f p k
-    go k j a = rw a (here j)
-
-pub search_ends : (f : ℕ → Bool) (p end : ℕ) → end ≤ p → p ≡ first_where f p (end - p)
-unfolding first_where
-search_ends f p end l = go (end - p) (omega arith)
-  where
-    none : p ≡ first_where f p 0
-    none = refl
-
-    go : (k : ℕ) → k ≡ 0 → p ≡ first_where f p k
-    go k a = rw a none
-
--- a search of numbers from one on, the end excluded, that stopped at none
-pub search_none : (f : ℕ → Bool) (p end q r : ℕ) → r ≡ max p end → (p ≤ end → q ≤ end) → end ≤ q → first_where f q (end - q) ≡ first_where f p (end - p) → r ≡ first_where f p (end - p)
-search_none f p end q r is within done rest = go (leb p end) refl
-  where
-    go : (b : Bool) → leb p end ≡ b → r ≡ first_where f p (end - p)
-    go true h = let l : p ≤ end = leb-true p end h in let w : q ≤ end = within l in let e : r ≡ q = omega arith in e ∙ (search_ends f q end done ∙ rest)
-    go false h = let l : end < p = leb-false p end h in let e : r ≡ p = omega arith in e ∙ search_ends f p end (omega arith)
-
-pub search_found : (f : ℕ → Bool) (p from end : ℕ) → p < end → p ≡ first_where f from (end - from) → Some p ≡ before end (first_where f from (end - from))
+pub found_where : (f : ℕ → Bool) (from end : ℕ) (r : Option ℕ) → MatchOption r (Passed f from end) (λ i. (from ≤ i) × (i < end) × (f i ≡ true) × Passed f from i)
+    → r ≡ before end (first_where f from (end - from))
 unfolding before
-search_found f p from end h e = rw (← e, lt-ltb p end h)
+found_where f from end None h =
+    let e = where_none f from (end - from) (λ k a b. go k a b) in
+    let l : end ≤ first_where f from (end - from) = omega arith in
+    rw (le-ltb (first_where f from (end - from)) end l) refl
+  where
+    go : (k : ℕ) → from ≤ k → k < from + (end - from) → f k ≡ false
+    go k a b = h k a (omega arith)
+found_where f from end (Some i) (low, high, hit, passed) =
+    let s : from + (i - from) ≡ i = omega arith in
+    let e : first_where f from (end - from) ≡ from + (i - from) = where_some f from (end - from) (i - from) (omega arith) (rw s hit) (rw s passed) in
+    rw (e, s, lt-ltb i end high) refl
 
-pub search_over : (f : ℕ → Bool) (p from end : ℕ) → end ≤ p → first_where f p (end - p) ≡ first_where f from (end - from) → None ≡ before end (first_where f from (end - from))
-unfolding before
-search_over f p from end h e = let l : end ≤ first_where f from (end - from) = omega (arith, search_ends f p end h) in rw (le-ltb (first_where f from (end - from)) end l)
+-- a walk over the nodes is a search too
+abbrev pub node_hit : List NodeSlot → ℕ → Bool
+node_hit nodes k = is_node (get_or nodes k fresh_slot).entry
+
+abbrev pub node_item : Option ℕ → Option (NodeIndex × Nodes)
+node_item None = None
+node_item (Some n) = Some (node# n, record { held = suc n })
+
+nodes_by_search : (nodes : List NodeSlot) (p n : ℕ) → node_from nodes p n ≡ node_item (before (p + n) (first_where (node_hit nodes) p n))
+unfolding node_from first_where before
+nodes_by_search nodes p zero = rw (le-ltb p (p + 0) (omega arith)) refl
+nodes_by_search nodes p (suc n) = go (node_hit nodes p) (nodes_by_search nodes (suc p) n)
+  where
+    go : (b : Bool) → node_from nodes (suc p) n ≡ node_item (before (suc p + n) (first_where (node_hit nodes) (suc p) n)) → cond b (Some (node# p, record { held = suc p })) (node_from nodes (suc p) n) ≡ node_item (before (p + suc n) (cond b p (first_where (node_hit nodes) (suc p) n)))
+    go true h = rw (lt-ltb p (p + suc n) (omega arith)) refl
+    go false h = let s : p + suc n ≡ suc p + n = omega arith in rw s h
+
+pub nodes_given : (g : PortGraph) (held : ℕ) (r : Option ℕ) → node_held g held ≡ true → r ≡ before node_slots (first_where (node_hit g.node_meta) held (node_slots - held)) → node_item r ≡ step_nodes g held
+unfolding step_nodes node_from first_where before
+nodes_given g held r h e = rw (h, e) (go (node_slots - held) refl)
+  where
+    go : (k : ℕ) → node_slots - held ≡ k → node_item (before node_slots (first_where (node_hit g.node_meta) held k)) ≡ node_from g.node_meta held k
+    go zero z = rw (le-ltb held node_slots (omega arith)) refl
+    go (suc k) z = let s : held + suc k ≡ node_slots = omega arith in rw (← s) (sym (nodes_by_search g.node_meta held (suc k)))
 
 -- what a search says that stopped, and that did not
 pub stopped : (end q p : ℕ) → before end q ≡ Some p → (p ≡ q) × (p < end)
@@ -177,24 +190,99 @@ module _ {ℓ} {A : Type ℓ} (end : A) (item : ℕ → A) (f : ℕ → Bool) wh
       go : (q k : ℕ) → q ≡ p → k ≡ ports_to m sides - p → on_first end item (filter f (range q k)) ≡ cond (ltb (first_where f p (ports_to m sides - p)) (ports_to m sides)) (item (first_where f p (ports_to m sides - p))) end
       go q k a b = rw (a, b) (there (ports_to m sides - p) refl)
 
--- a step of a walk that stops at some ports of a node: l is what the walk has left, r where the search stops
-pub step_by_search {ℓ} : {A : Type ℓ} (end : A) (item : ℕ → A) (f : ℕ → Bool) (e : NodeEntry) (sides : Sides) (held : ℕ) (there : Bool) (l : Span) (r : ℕ)
-    → l ≡ ports_left e sides held there → r ≡ first_where f l.from (l.to - l.from)
-    → beyond there held end item (filter f (ports_in (meta_of_entry e) sides)) ≡ cond (ltb r l.to) (item r) end
-unfolding beyond ports_left on_first filter first_where
-step_by_search end item f e sides held there l r a b = rw (b, a) (go e there)
+pub no_node_no_step {ℓ} : {A : Type ℓ} (end : A) (item : ℕ → A) (f : ℕ → Bool) (there : Bool) (held : ℕ) (sides : Sides) (m : Option NodeMeta) → None ≡ m → end ≡ beyond there held end item (filter f (ports_in m sides))
+unfolding beyond on_first filter
+no_node_no_step end item f there held sides m e = rw (sym e) (go there)
   where
-    ordered : (m : NodeMeta) (s : Sides) → ports_from m s ≤ ports_to m s
-    ordered m (One Incoming) = omega arith
-    ordered m (One Outgoing) = omega arith
-    ordered m Both = omega arith
+    go : (b : Bool) → end ≡ cond b end end
+    go true = refl
+    go false = refl
 
-    go : (e : NodeEntry) (there : Bool) → beyond there held end item (filter f (ports_in (meta_of_entry e) sides))
-        ≡ cond (ltb (first_where f (ports_left e sides held there).from ((ports_left e sides held there).to - (ports_left e sides held there).from)) (ports_left e sides held there).to) (item (first_where f (ports_left e sides held there).from ((ports_left e sides held there).to - (ports_left e sides held there).from))) end
-    go (Free x) true = refl
-    go (Free x) false = refl
-    go (Node m) true = found_in_node end item f m sides held (max (ports_from m sides) held) (ordered m sides) refl
-    go (Node m) false = refl
+-- A step of a walk that stops at some ports of a node, by the node that is left and what the search of its ports finds.
+module _ {A : Type 0} (item : ℕ → Option A) (f : ℕ → Bool) (g : PortGraph) (n : ℕ) (sides : Sides) (held : ℕ) {o : Option NodeMeta} (left : o ≡ node_left g.node_meta g.port_meta n held) where
+  abbrev stepped : Option A
+  stepped = beyond (held_in g.port_meta held) held None item (filter f (ports_in (meta_at g n) sides))
+
+  pub step_gone : o ≡ None → None ≡ stepped
+  unfolding node_left beyond on_first filter
+  step_gone e = go (held_in g.port_meta held) (meta_at g n) (sym left ∙ e)
+    where
+      go : (b : Bool) (m : Option NodeMeta) → cond b m None ≡ None → None ≡ beyond b held None item (filter f (ports_in m sides))
+      go true None h = refl
+      go true (Some m) h = absurd cc
+      go false m h = refl
+
+  module _ (m : NodeMeta) {l : Range ℕ} {q : Option ℕ} (is : o ≡ Some m) (ports : l ≡ ports_left m sides held) (search : q ≡ before l.end (first_where f l.start (l.end - l.start))) where
+    by_search : stepped ≡ cond (ltb (first_where f l.start (l.end - l.start)) l.end) (item (first_where f l.start (l.end - l.start))) None
+    unfolding node_left ports_left beyond
+    by_search = rw ports (go (held_in g.port_meta held) (meta_at g n) (sym left ∙ is))
+      where
+        ordered : (m : NodeMeta) (s : Sides) → ports_from m s ≤ ports_to m s
+        ordered m (One Incoming) = omega arith
+        ordered m (One Outgoing) = omega arith
+        ordered m Both = omega arith
+
+        here : NodeMeta → ℕ
+        here k = first_where f (max (ports_from k sides) held) (ports_to k sides - max (ports_from k sides) held)
+
+        go : (b : Bool) (k : Option NodeMeta) → cond b k None ≡ Some m → beyond b held None item (filter f (ports_in k sides)) ≡ cond (ltb (here m) (ports_to m sides)) (item (here m)) None
+        go true None h = absurd cc
+        go true (Some k) h =
+            let same : k ≡ m = cc in
+            found_in_node None item f k sides held (max (ports_from k sides) held) (ordered k sides) refl
+            ∙ ap (λ (x : NodeMeta). cond (ltb (here x) (ports_to x sides)) (item (here x)) None) same
+        go false k h = absurd cc
+
+    pub step_over : q ≡ None → None ≡ stepped
+    step_over e = rw (by_search, le-ltb (first_where f l.start (l.end - l.start)) l.end (not_stopped _ _ (sym search ∙ e)))
+
+    pub step_given : (p : ℕ) → q ≡ Some p → item p ≡ stepped
+    step_given p e =
+        let at = stopped _ _ _ (sym search ∙ e) in
+        let below : first_where f l.start (l.end - l.start) < l.end = omega (arith, at.0, at.1) in
+        rw (by_search, lt-ltb (first_where f l.start (l.end - l.start)) l.end below) (ap item at.0)
+
+-- the block of the node that is left lies within the tables
+pub left_fits : (g : PortGraph) → Wf g → (n held : ℕ) {o : Option NodeMeta} (m : NodeMeta) → o ≡ node_left g.node_meta g.port_meta n held → o ≡ Some m → BlockFits m
+unfolding node_left
+left_fits g wf n held m left is = go (held_in g.port_meta held) (meta_at g n) refl (sym left ∙ is)
+  where
+    go : (b : Bool) (k : Option NodeMeta) → meta_at g n ≡ k → cond b k None ≡ Some m → BlockFits m
+    go true None z h = absurd cc
+    go true (Some k) z h = found_block_fits g wf n m (cc)
+    go false k z h = absurd cc
+
+-- so do its own outgoing ports, which are those of the node
+pub own_left : (g : PortGraph) (n held : ℕ) (flag : Bool) {o : Option NodeMeta} (m : NodeMeta) {s : PortRange} → o ≡ node_left g.node_meta g.port_meta n held → o ≡ Some m → s ≡ own_ports m flag →
+    (s.from ≡ own_from flag (meta_at g n)) × (s.to ≡ own_to flag (meta_at g n))
+unfolding node_left own_ports
+own_left g n held flag m {s} left is own = go (held_in g.port_meta held) (meta_at g n) (sym left ∙ is)
+  where
+    go : (b : Bool) (k : Option NodeMeta) → cond b k None ≡ Some m → (s.from ≡ own_from flag k) × (s.to ≡ own_to flag k)
+    go true None h = absurd cc
+    go true (Some k) h = let same : m ≡ k = cc in (ap (λ (x : PortRange). x.from) own ∙ ap (λ x. own_from flag (Some x)) same, ap (λ (x : PortRange). x.to) own ∙ ap (λ x. own_to flag (Some x)) same)
+    go false k h = absurd cc
+
+-- the step of a walk over a node's ports
+pub ports_stepped : (g : PortGraph) (c : NodePorts) {o : Option NodeMeta} → o ≡ node_left g.node_meta g.port_meta c.node.0 c.held → ports_beyond c.node.0 c.sides c.held o ≡ step_ports g c
+unfolding node_left step_ports held_in is_port_in
+ports_stepped g c left = ap (ports_beyond c.node.0 c.sides c.held) left ∙ go (port_held g c.held) (meta_at g c.node.0)
+  where
+    go : (b : Bool) (m : Option NodeMeta) → ports_beyond c.node.0 c.sides c.held (cond b m None) ≡ cond b (ports_beyond c.node.0 c.sides c.held m) None
+    go true m = refl
+    go false m = refl
+
+module _ (g : PortGraph) (c : NodePorts) {o : Option NodeMeta} (m : NodeMeta) {l : Range ℕ} (left : o ≡ node_left g.node_meta g.port_meta c.node.0 c.held) (is : o ≡ Some m)
+    (ports : l ≡ ports_left m c.sides c.held) where
+  stepped_at : step_ports g c ≡ ports_item c.node.0 c.sides l.start l.end
+  unfolding ports_left
+  stepped_at = sym (ap (ports_beyond c.node.0 c.sides c.held) (sym is) ∙ ports_stepped g c left) ∙ rw ports refl
+
+  pub port_over : l.end ≤ l.start → None ≡ step_ports g c
+  port_over h = rw (stepped_at, le-ltb l.start l.end h)
+
+  pub port_given : l.start < l.end → Some (port# l.start, record { node = c.node; sides = c.sides; held = l.start + 1 }) ≡ step_ports g c
+  port_given h = rw (stepped_at, lt-ltb l.start l.end h, add-one)
 
 -- Single readings of the tables.
 
@@ -214,14 +302,6 @@ module _ (t : List ℕ) (p e : ℕ) (read : e ≡ at t p) where
       go true z = let none : e ≡ 0 = eqb-true e 0 z in let half : w / 2 ≡ 0 = omega arith in half ∙ owner_none none
       go false z = ap (λ x. x / 2) h ∙ owner_some (eqb-false e 0 z)
 
-  pub port_told : ltb 0 e ≡ is_port_in t p
-  unfolding is_port_in port_entry
-  port_told = ap (ltb 0) read ∙ go (eqb (at t p) 0) refl
-    where
-      go : (b : Bool) → eqb (at t p) 0 ≡ b → ltb 0 (at t p) ≡ is_port (cond b port_variants.Free (port_variants.Port (record { node = record { 0 = (at t p - 1) / 2 }; direction = cond (eqb ((at t p - 1) % 2) 0) Incoming Outgoing })))
-      go true z = le-ltb 0 (at t p) (let h : at t p ≡ 0 = eqb-true _ _ z in omega arith)
-      go false z = lt-ltb 0 (at t p) (let h : at t p ≡ 0 → ⊥ = eqb-false _ _ z in omega arith)
-
   pub kept_read : (lo hi : ℕ) (r : Bool) → r ≡ is_kept e lo hi → r ≡ link_kept t lo hi p
   unfolding link_kept
   kept_read lo hi r h = h ∙ ap (λ x. is_kept x lo hi) read
@@ -230,178 +310,9 @@ module _ (t : List ℕ) (p e : ℕ) (read : e ≡ at t p) where
   unfolding link_to
   link_to_none owners n z = rw (eq-eqb (at t p) 0 (sym read ∙ z))
 
-  pub link_to_some : (owners : List ℕ) (n w o : ℕ) (r : Bool) → (e ≡ 0 → ⊥) → w ≡ e - 1 → o ≡ at owners w → r ≡ is_of n o → r ≡ link_to t owners n p
-  unfolding link_to
-  link_to_some owners n w o r h hw ho hr =
-      let d : w ≡ at t p - 1 = hw ∙ ap (λ x. x - 1) read in
-      rw (ne_eqb (at t p) 0 (λ z. h (read ∙ z))) (hr ∙ ap (is_of n) (ho ∙ ap (at owners) d))
-
 pub held_none : (t : List ℕ) (held : ℕ) → held ≡ 0 → true ≡ held_in t held
 unfolding held_in
 held_none t held z = rw (eq-eqb held 0 z)
-
-pub held_some : (t : List ℕ) (held w : ℕ) (r : Bool) → (held ≡ 0 → ⊥) → w ≡ held - 1 → r ≡ is_port_in t w → r ≡ held_in t held
-unfolding held_in
-held_some t held w r n hw hr = rw (ne_eqb held 0 n) (hr ∙ ap (is_port_in t) hw)
-
-module _ (far lo hi : ℕ) where
-  pub kept_none : far ≡ 0 → false ≡ is_kept far lo hi
-  unfolding is_kept
-  kept_none z = rw (eq-eqb far 0 z)
-
-  pub kept_below : (p : ℕ) → (far ≡ 0 → ⊥) → p ≡ far - 1 → p < lo → true ≡ is_kept far lo hi
-  unfolding is_kept
-  kept_below p n e l = rw (ne_eqb far 0 n, lt-leb lo (far - 1) (omega arith))
-
-  pub kept_above : (p : ℕ) → (far ≡ 0 → ⊥) → p ≡ far - 1 → lo ≤ p → leb hi p ≡ is_kept far lo hi
-  unfolding is_kept
-  kept_above p n e l = rw (ne_eqb far 0 n, le-leb lo (far - 1) (omega arith)) (ap (leb hi) e)
-
-pub of_none : (n owner : ℕ) → owner ≡ 0 → false ≡ is_of n owner
-unfolding is_of port_entry
-of_none n owner z = rw (eq-eqb owner 0 z)
-
-pub of_some : (n owner : ℕ) → (owner ≡ 0 → ⊥) → eqb ((owner - 1) / 2) n ≡ is_of n owner
-unfolding is_of port_entry
-of_some n owner h = rw (ne_eqb owner 0 h)
-
--- What a walk has left, and what it is to skip.
-
-module _ (e : NodeEntry) where
-  pub left_free : (f : FreeNodeEntry) (sides : Sides) (held : ℕ) (there : Bool) → e ≡ Free f → span 0 0 ≡ ports_left e sides held there
-  unfolding ports_left
-  left_free f sides held there h = rw h
-
-  pub left_gone : (m : NodeMeta) (sides : Sides) (held : ℕ) (there : Bool) → e ≡ Node m → there ≡ false → span 0 0 ≡ ports_left e sides held there
-  unfolding ports_left
-  left_gone m sides held there h t = rw (h, t)
-
-  pub left_there : (m : NodeMeta) (sides : Sides) (held : ℕ) (there : Bool) (a w p q : ℕ) → e ≡ Node m → there ≡ true
-      → a ≡ ports_from m sides → w ≡ held → p ≡ max a w → q ≡ ports_to m sides → span p q ≡ ports_left e sides held there
-  unfolding ports_left
-  left_there m sides held there a w p q h t ha hw hp hq = rw (h, t, hq, hp, ha, hw)
-
-  pub own_free : (f : FreeNodeEntry) (flag : Bool) → e ≡ Free f → span 0 0 ≡ own_ports e flag
-  unfolding own_ports
-  own_free f flag h = rw h (go flag)
-    where
-      go : (b : Bool) → span 0 0 ≡ span (own_from b None) (own_to b None)
-      go true = refl
-      go false = refl
-
-  pub own_not : (flag : Bool) → flag ≡ false → span 0 0 ≡ own_ports e flag
-  unfolding own_ports
-  own_not flag h = rw h
-
-  pub own_some : (m : NodeMeta) (flag : Bool) (p q : ℕ) → e ≡ Node m → flag ≡ true → p ≡ ports_from m (One Outgoing) → q ≡ ports_to m (One Outgoing)
-      → span p q ≡ own_ports e flag
-  unfolding own_ports
-  own_some m flag p q h t hp hq = rw (h, t, hp, hq)
-
--- Choices, with their numbers.
-
-pub chosen_first : {A B : Type 0} (f : A → B) (x y : A) (r b : Bool) → r ≡ b → r ≡ true → (x ≡ cond b x y) × (f x ≡ f (cond b x y))
-chosen_first f x y r b e t = let h : x ≡ cond b x y = rw (sym e, t) in (h, ap f h)
-
-pub chosen_second : {A B : Type 0} (f : A → B) (x y : A) (r b : Bool) → r ≡ b → r ≡ false → (y ≡ cond b x y) × (f y ≡ f (cond b x y))
-chosen_second f x y r b e t = let h : y ≡ cond b x y = rw (sym e, t) in (h, ap f h)
-
-module _ {A B : Type 0} (f : A → B) (x y : A) (r b s d : Bool) (first : r ≡ b) (taken : r ≡ true) (second : s ≡ d) where
-  pub chosen_both : s ≡ true → (x ≡ cond b (cond d x y) y) × (f x ≡ f (cond b (cond d x y) y))
-  chosen_both t = let h : x ≡ cond b (cond d x y) y = rw (sym first, taken, sym second, t) in (h, ap f h)
-
-  pub chosen_one : s ≡ false → (y ≡ cond b (cond d x y) y) × (f y ≡ f (cond b (cond d x y) y))
-  chosen_one t = let h : y ≡ cond b (cond d x y) y = rw (sym first, taken, sym second, t) in (h, ap f h)
-
--- Steps, from what the code has computed: the node's place w, whether the port held is there, the ports left l, and where the
--- search stops, r.
-
-pub no_node_no_step {ℓ} : {A : Type ℓ} (end : A) (item : ℕ → A) (f : ℕ → Bool) (there : Bool) (held : ℕ) (sides : Sides) (m : Option NodeMeta) → None ≡ m → end ≡ beyond there held end item (filter f (ports_in m sides))
-unfolding beyond on_first filter
-no_node_no_step end item f there held sides m e = rw (sym e) (go there)
-  where
-    go : (b : Bool) → end ≡ cond b end end
-    go true = refl
-    go false = refl
-
--- the ports left lie within the tables
-pub left_inside : (g : PortGraph) → Wf g → (w : ℕ) (sides : Sides) (held : ℕ) (there : Bool) (l : Span) → l ≡ ports_left (entry_at g w) sides held there → l.to ≤ port_slots
-unfolding ports_left
-left_inside g wf w sides held there l h = rw h (go (entry_at g w) refl there)
-  where
-    go : (e : NodeEntry) → entry_at g w ≡ e → (b : Bool) → (ports_left e sides held b).to ≤ port_slots
-    go (Free f) a b = omega arith
-    go (Node m) a true = ports_end_inside g wf w m sides (ap meta_of_entry a)
-    go (Node m) a false = omega arith
-
-module _ (g : PortGraph) (w : ℕ) where
-  pub links_outside : (c : NodeLinks) → length g.node_meta ≡ node_slots → w ≡ c.node.0 → node_slots ≤ w → None ≡ step_links g c
-  unfolding step_links
-  links_outside c long e h = no_node_no_step _ _ _ _ _ c.sides _ (node_outside g.node_meta c.node.0 w long e h)
-
-  pub neighbours_outside : (c : Neighbours) → length g.node_meta ≡ node_slots → w ≡ c.node.0 → node_slots ≤ w → None ≡ step_neighbours g c
-  unfolding step_neighbours
-  neighbours_outside c long e h = no_node_no_step _ _ _ _ _ c.sides _ (node_outside g.node_meta c.node.0 w long e h)
-
-  pub connections_outside : (c : NodeConnections) → length g.node_meta ≡ node_slots → w ≡ c.node.0 → node_slots ≤ w → None ≡ step_connections g c
-  unfolding step_connections
-  connections_outside c long e h = no_node_no_step _ _ _ _ _ (One Outgoing) _ (node_outside g.node_meta c.node.0 w long e h)
-
-module _ (g : PortGraph) (w : ℕ) (there : Bool) (l : Span) (r : ℕ) where
-  left_at : (n : ℕ) (sides : Sides) (held : ℕ) (b : Bool) → w ≡ n → there ≡ b → l ≡ ports_left (entry_at g w) sides held there → l ≡ ports_left (entry_at g n) sides held b
-  left_at n sides held b hw ht hl = hl ∙ ap (λ x. ports_left (entry_at g x) sides held there) hw ∙ ap (ports_left (entry_at g n) sides held) ht
-
-  pub links_by_search : (c : NodeLinks) (lo hi : ℕ) → w ≡ c.node.0 → there ≡ held_in g.port_meta c.held → l ≡ ports_left (entry_at g w) c.sides c.held there
-      → lo ≡ c.skip_from → hi ≡ c.skip_to → r ≡ first_where (link_kept g.port_link lo hi) l.from (l.to - l.from)
-      → step_links g c ≡ cond (ltb r l.to) (links_item g c r) None
-  unfolding step_links
-  links_by_search c lo hi hw ht hl ha hb hr =
-      step_by_search None (links_item g c) (link_kept g.port_link c.skip_from c.skip_to) (entry_at g c.node.0) c.sides c.held (held_in g.port_meta c.held) l r
-      (left_at c.node.0 c.sides c.held (held_in g.port_meta c.held) hw ht hl)
-      (hr
-      ∙ ap (λ x. first_where (link_kept g.port_link x hi) l.from (l.to - l.from)) ha
-      ∙ ap (λ x. first_where (link_kept g.port_link c.skip_from x) l.from (l.to - l.from)) hb)
-
-  pub neighbours_by_search : (c : Neighbours) (skip : Span) → w ≡ c.node.0 → there ≡ held_in g.port_meta c.held → l ≡ ports_left (entry_at g w) c.sides c.held there
-      → skip ≡ own_ports (entry_at g w) c.ignore_self → r ≡ first_where (link_kept g.port_link skip.from skip.to) l.from (l.to - l.from)
-      → step_neighbours g c ≡ cond (ltb r l.to) (neighbours_item g c r) None
-  unfolding step_neighbours own_ports
-  neighbours_by_search c skip hw ht hl hs hr =
-      step_by_search None (neighbours_item g c) (link_kept g.port_link (own_from c.ignore_self (meta_at g c.node.0)) (own_to c.ignore_self (meta_at g c.node.0)))
-      (entry_at g c.node.0) c.sides c.held (held_in g.port_meta c.held) l r
-      (left_at c.node.0 c.sides c.held (held_in g.port_meta c.held) hw ht hl)
-      (hr ∙ ap (λ (x : Span). first_where (link_kept g.port_link x.from x.to) l.from (l.to - l.from)) (hs ∙ ap (λ x. own_ports (entry_at g x) c.ignore_self) hw))
-
-  pub connections_by_search : (c : NodeConnections) → w ≡ c.node.0 → there ≡ held_in g.port_meta c.held → l ≡ ports_left (entry_at g w) (One Outgoing) c.held there
-      → r ≡ first_where (link_to g.port_link g.port_meta c.target.0) l.from (l.to - l.from)
-      → step_connections g c ≡ cond (ltb r l.to) (connections_item g c r) None
-  unfolding step_connections
-  connections_by_search c hw ht hl hr =
-      step_by_search None (connections_item g c) (link_to g.port_link g.port_meta c.target.0) (entry_at g c.node.0) (One Outgoing) c.held (held_in g.port_meta c.held) l r
-      (left_at c.node.0 (One Outgoing) c.held (held_in g.port_meta c.held) hw ht hl) hr
-
-module _ (g : PortGraph) (end r : ℕ) where
-  pub links_given : (c : NodeLinks) (far : ℕ) → step_links g c ≡ cond (ltb r end) (links_item g c r) None → r < end → far ≡ far_in g.port_link r
-      → Some (record { from = port# r; to = port# far }, record { node = c.node; sides = c.sides; skip_from = c.skip_from; skip_to = c.skip_to; held = r + 1 }) ≡ step_links g c
-  links_given c far s h e = rw (s, lt-ltb r end h, add-one, e)
-
-  pub links_over : (c : NodeLinks) → step_links g c ≡ cond (ltb r end) (links_item g c r) None → end ≤ r → None ≡ step_links g c
-  links_over c s h = rw (s, le-ltb r end h)
-
-  pub neighbours_given : (c : Neighbours) (far v n : ℕ) → step_neighbours g c ≡ cond (ltb r end) (neighbours_item g c r) None → r < end
-      → far ≡ far_in g.port_link r → v ≡ far → n ≡ owner_in g.port_meta v
-      → Some (node# n, record { node = c.node; sides = c.sides; ignore_self = c.ignore_self; held = r + 1 }) ≡ step_neighbours g c
-  neighbours_given c far v n s h e d o = rw (s, lt-ltb r end h, add-one, o, d, e)
-
-  pub neighbours_over : (c : Neighbours) → step_neighbours g c ≡ cond (ltb r end) (neighbours_item g c r) None → end ≤ r → None ≡ step_neighbours g c
-  neighbours_over c s h = rw (s, le-ltb r end h)
-
-  pub connections_given : (c : NodeConnections) (far : ℕ) → step_connections g c ≡ cond (ltb r end) (connections_item g c r) None → r < end → far ≡ far_in g.port_link r
-      → Some (record { from = port# r; to = port# far }, record { node = c.node; target = c.target; held = r + 1 }) ≡ step_connections g c
-  connections_given c far s h e = rw (s, lt-ltb r end h, add-one, e)
-
-  pub connections_over : (c : NodeConnections) → step_connections g c ≡ cond (ltb r end) (connections_item g c r) None → end ≤ r → None ≡ step_connections g c
-  connections_over c s h = rw (s, le-ltb r end h)
 
 -- the walk over all ports
 pub ports_gone : (g : PortGraph) (c : Ports) (there : Bool) → there ≡ held_in g.port_meta c.held → there ≡ false → None ≡ step_all_ports g c

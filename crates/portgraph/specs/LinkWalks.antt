@@ -1,10 +1,10 @@
 -- Walks over the links of a node and over all ports: the list that each gives, and the step of its cursor on any graph.
 -- A step gives the next item of the present listing beyond the port held; a cursor whose node or port is gone ends the walk.
-use Rattle.std.specs.Prelude.{Bool, true, false, cond, List, [], ◌∷◌, map, ℕ, suc, ◌-◌, zero, max, eqb, leb, ltb, Option, Some, None, Result, Ok, Err}
+use Rattle.std.specs.Prelude.{Bool, true, false, cond, List, [], ◌∷◌, map, ℕ, suc, ◌-◌, zero, max, eqb, leb, ltb, get_or, Option, Some, None, Result, Ok, Err}
 use Rattle.port_tables.specs.Limits.{port_slots}
 use Rattle.port_tables.specs.Lists.{filter, on_first, range}
-use Rattle.port_tables.specs.Entries.{port_entry, node#, port#, node_of, meta_of_entry, ports_from, ports_to}
-use Rattle.port_tables.specs.Tables.{at}
+use Rattle.port_tables.specs.Entries.{port_entry, node#, port#, node_of, meta_of_entry, fresh_slot, ports_from, ports_to}
+use Rattle.port_tables.specs.Tables.{at, far_in, owner_in}
 use Rattle.portgraph.specs.Lookups.{meta_at, contains_node, is_port}
 use Rattle.portgraph.specs.WalkLaws.{ports_of_node}
 use Rattle.port_tables.specs.declared.direction.Direction.TheVariants.{Outgoing}
@@ -17,10 +17,10 @@ use Rattle.portgraph.specs.declared.link_iter.NodeLinks.{NodeLinks}
 use Rattle.portgraph.specs.declared.link_iter.Neighbours.{Neighbours}
 use Rattle.portgraph.specs.declared.link_iter.NodeConnections.{NodeConnections}
 use Rattle.portgraph.specs.declared.link_iter.Ports.{Ports}
-use Rattle.portgraph.specs.declared.link_iter.Span.{Span}
-use Rattle.port_tables.specs.declared.node_entry.NodeEntry.{NodeEntry}
-use Rattle.port_tables.specs.declared.node_entry.NodeEntry.TheVariants.{Free, Node}
+use Rattle.std.specs.declared.ops.Range.{Range}
+use Rattle.port_tables.specs.declared.node_entry.NodeSlot.{NodeSlot}
 use Rattle.port_tables.specs.declared.index.PortIndex.{PortIndex}
+use Rattle.port_tables.specs.declared.index.PortRange.{PortRange}
 use Rattle.port_tables.specs.declared.node_entry.NodeMeta.{NodeMeta}
 use Rattle.portgraph.specs.declared.alloc.NoSuchNode.{NoSuchNode}
 
@@ -29,18 +29,6 @@ unfoldable pub beyond {ℓ} : {A : Type ℓ} → Bool → ℕ → A → (ℕ →
 beyond there held end item ports = cond there (on_first end item (filter (leb held) ports)) end
 
 -- What the tables say of a port: the links in the one, the owners in the other.
-
--- the port that a port is linked with; 0 where there is none
-abbrev pub far_in : List ℕ → ℕ → ℕ
-far_in links p = at links p - 1
-
-abbrev pub node_number : Option NodeIndex → ℕ
-node_number (Some n) = n.0
-node_number None = 0
-
--- the node that has a port; 0 where there is none
-unfoldable pub owner_in : List ℕ → ℕ → ℕ
-owner_in owners p = node_number (node_of (port_entry (at owners p)))
 
 unfoldable pub is_port_in : List ℕ → ℕ → Bool
 is_port_in owners p = is_port (port_entry (at owners p))
@@ -86,12 +74,12 @@ node_links g n sides lo hi = map (link_at g) (linked_ports g n sides lo hi)
 
 abbrev pub links_item : PortGraph → NodeLinks → ℕ → Option (Link × NodeLinks)
 links_item g c p =
-    Some (link_at g p, record { node = c.node; sides = c.sides; skip_from = c.skip_from; skip_to = c.skip_to; held = suc p })
+    Some (link_at g p, record { node = c.node; sides = c.sides; skip = c.skip; held = suc p })
 
 unfoldable pub step_links : PortGraph → NodeLinks → Option (Link × NodeLinks)
 step_links g c =
     beyond (held_in g.port_meta c.held) c.held None (links_item g c)
-    (linked_ports g c.node.0 c.sides c.skip_from c.skip_to)
+    (linked_ports g c.node.0 c.sides c.skip.from c.skip.to)
 
 -- Neighbours of a node, one for each link; with the flag without links to the node's own outgoing ports.
 
@@ -154,10 +142,10 @@ step_all_ports g c = beyond (held_in g.port_meta c.held) c.held None all_ports_i
 
 -- Starts: refused for a node that is not live.
 
-abbrev pub start_links : PortGraph → NodeIndex → Sides → ℕ → ℕ → Result NodeLinks NoSuchNode
-start_links g n sides lo hi =
+abbrev pub start_links : PortGraph → NodeIndex → Sides → PortRange → Result NodeLinks NoSuchNode
+start_links g n sides skip =
     cond (contains_node g n.0)
-    (Ok (record { node = n; sides = sides; skip_from = lo; skip_to = hi; held = 0 }))
+    (Ok (record { node = n; sides = sides; skip = skip; held = 0 }))
     (Err (record {}))
 
 abbrev pub start_neighbours : PortGraph → NodeIndex → Sides → Bool → Result Neighbours NoSuchNode
@@ -213,14 +201,17 @@ first_where f p (suc k) = cond (f p) p (first_where f (suc p) k)
 unfoldable pub before : ℕ → ℕ → Option ℕ
 before end p = cond (ltb p end) (Some p) None
 
-abbrev pub span : ℕ → ℕ → Span
-span a b = record { from = a; to = b }
+abbrev pub span : ℕ → ℕ → Range ℕ
+span a b = record { start = a; end = b }
 
--- the ports that a walk over a node's ports has left; none where the port that it holds is gone
-unfoldable pub ports_left : NodeEntry → Sides → ℕ → Bool → Span
-ports_left (Free f) sides held there = span 0 0
-ports_left (Node m) sides held there = cond there (span (max (ports_from m sides) held) (ports_to m sides)) (span 0 0)
+-- the node at which a walk goes on; none where it is gone, or the port that the walk holds
+unfoldable pub node_left : List NodeSlot → List ℕ → ℕ → ℕ → Option NodeMeta
+node_left nodes owners n held = cond (held_in owners held) (meta_of_entry (get_or nodes n fresh_slot).entry) None
+
+-- the ports that a walk over a node's ports has left
+unfoldable pub ports_left : NodeMeta → Sides → ℕ → Range ℕ
+ports_left m sides held = span (max (ports_from m sides) held) (ports_to m sides)
 
 -- a node's outgoing ports, where the flag asks for them
-unfoldable pub own_ports : NodeEntry → Bool → Span
-own_ports e flag = span (own_from flag (meta_of_entry e)) (own_to flag (meta_of_entry e))
+unfoldable pub own_ports : NodeMeta → Bool → PortRange
+own_ports m flag = record { from = own_from flag (Some m); to = own_to flag (Some m) }

@@ -64,7 +64,7 @@ node_outside l n w long e h =
 pub node_read : (l : List NodeSlot) (n w : ℕ) (e : NodeEntry) → w ≡ n → (get_or l w fresh_slot).entry ≡ e → meta_of_entry e ≡ meta_of_entry (get_or l n fresh_slot).entry
 node_read l n w e hw he = ap meta_of_entry (sym he ∙ ap (λ (x : ℕ). (get_or l x fresh_slot).entry) hw)
 
-entry_of_meta : (e : NodeEntry) (m : NodeMeta) → Some m ≡ meta_of_entry e → e ≡ node_variants.Node m
+pub entry_of_meta : (e : NodeEntry) (m : NodeMeta) → Some m ≡ meta_of_entry e → e ≡ node_variants.Node m
 entry_of_meta (node_variants.Free f) m h = let z : ◌≡◌ {A = ℕ} 0 1 = cc in absurd (omega arith)
 entry_of_meta (node_variants.Node k) m h = cc
 
@@ -133,12 +133,6 @@ pub link_unknown : (g : PortGraph) (a b : ℕ) → port_variants.Free ≡ port_a
 unfolding link_ports
 link_unknown g a b e = ap (λ (x : PortEntry). link_entries g a b x (port_at g b)) e
 
-pub link_unknown_second : (g : PortGraph) (a b : ℕ) (m : PortMeta) → port_variants.Port m ≡ port_at g a → port_variants.Free ≡ port_at g b
-    → link_refused g (Err (link_error.UnknownSecondPort (port# b))) ≡ link_ports g a b
-unfolding link_ports
-link_unknown_second g a b m e f =
-    ap (λ (x : PortEntry). link_entries g a b x port_variants.Free) e ∙ ap (link_entries g a b (port_at g a)) f
-
 module _ (g : PortGraph) (a b : ℕ) (m k : PortMeta) (first : port_variants.Port m ≡ port_at g a) (second : port_variants.Port k ≡ port_at g b) where
   both_live : link_sides g a b m.direction k.direction ≡ link_ports g a b
   unfolding link_ports
@@ -176,11 +170,6 @@ unlinked g t n l = record { graph = with_links g t n; answer = l }
 
 abbrev answered : PortGraph → Result (Option PortIndex) NoSuchPort → PortUnlinked
 answered g l = record { graph = g; answer = l }
-
-pub unlink_unknown : (g : PortGraph) (p : ℕ) → port_variants.Free ≡ port_at g p
-    → ◌≡◌ {A = PortUnlinked} (record { graph = g; answer = Err (record { 0 = port# p }) }) (unlink_port g p)
-unfolding unlink_port
-unlink_unknown g p h = ap (λ (e : PortEntry). answered (unlink_entry g p e) (link_of g p e)) h
 
 -- the link of a live port is cut, and the answer is what it was linked with
 pub unlink_live : (g : PortGraph) (p w far n : ℕ) (t : List ℕ) (l : Result (Option PortIndex) NoSuchPort) (o : PortMeta) → port_variants.Port o ≡ port_at g p → w ≡ p

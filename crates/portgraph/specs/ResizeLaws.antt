@@ -21,7 +21,7 @@ use Rattle.portgraph.specs.Joins.{drop_kept}
 use Rattle.port_tables.specs.Listing.{zero_is_not_one}
 use Rattle.portgraph.specs.Resize.{Plan, refuse, same, inside, anew, plan_block, plan_counts, plan_entry, plan_of, dropped, resize_inside, inside_told, resize_anew, anew_told, set_by, told_by, set_num_ports, moves_after, set_num_ports_under, plan_of_under, moves_after_under}
 use Rattle.port_tables.specs.ResizeLinks.{round_up, same_counts, fits_inside, first_slot, kept_incoming, kept_outgoing, drop_count, drop_told, anew_links}
-use Rattle.portgraph.specs.ResizeSteps.{round_up_reaches, round_up_positive, round_up_fits, round_up_beyond, length_move_up_events, length_drop_told}
+use Rattle.portgraph.specs.ResizeSteps.{round_up_reaches, round_up_positive, round_up_fits, round_up_beyond, length_move_up_events, length_drop_told, fits_below}
 use Rattle.portgraph.specs.GoodSlots.{block_of_one, slot_in_block}
 use Rattle.portgraph.specs.GoodLaws.{good_resize, good_move}
 use Rattle.portgraph.specs.WfFacts.{node_of_entry}
@@ -65,15 +65,6 @@ fits_not m i o h = go (ltb 0 (i + o)) (ltb (i + o) m.capacity) refl refl
     go true true p q = absurd (h (ltb-true _ _ p) (ltb-true _ _ q))
     go true false p q = refl
     go false b p q = refl
-
-fits_below : (m : NodeMeta) (i o : ℕ) → fits_inside m i o ≡ true → i + o ≤ m.capacity
-unfolding fits_inside
-fits_below m i o e = go (ltb 0 (i + o)) (ltb (i + o) m.capacity) refl e
-  where
-    go : (a b : Bool) → ltb (i + o) m.capacity ≡ b → cond a b false ≡ true → i + o ≤ m.capacity
-    go true true q e = let h : i + o < m.capacity = ltb-true _ _ q in omega arith
-    go true false q e = absurd (zero_is_not_one (cc))
-    go false b q e = absurd (zero_is_not_one (cc))
 
 -- The plan, said of the model.
 

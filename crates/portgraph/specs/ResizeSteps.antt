@@ -7,11 +7,11 @@ use Rattle.std.proofs.Math.Bool.{true, false}
 use Rattle.std.proofs.lemmas.Bool.{false≢true}
 use Rattle.std.proofs.Math.Nat.{pow-le-pow_right}
 use Rattle.std.proofs.Math.Dec.{eqb, leb}
-use Rattle.std.proofs.Math.ListN.{length-append, get_or-eq_default}
+use Rattle.std.proofs.Math.ListN.{length-append}
 use Rattle.std.proofs.lemmas.List.Edits.{sets}
 use borrow.Author.Tests.{le-leb, lt-leb, eq-eqb, ne_eqb, leb-true, leb-false, ltb-true, eqb-false}
 use Rattle.port_tables.specs.Limits.{node_ports, port_slots, most_ports_are_a_power}
-use Rattle.port_tables.specs.Entries.{node_slot_of, fresh_slot, meta_of}
+use Rattle.port_tables.specs.Entries.{node_slot_of, meta_of}
 use Rattle.port_tables.specs.Tables.{at, head_at, put_head, fill_range, own_block, cut_range, cut_count, chain_block, drop_events, move_up_events, shift_events}
 use Rattle.portgraph.specs.Lookups.{entry_at}
 use Rattle.portgraph.specs.Model.{Wf}
@@ -22,7 +22,6 @@ use Rattle.port_tables.specs.ResizeLinks.{doubled, round_up, same_counts, fits_i
 use Rattle.port_tables.specs.declared.node_entry.NodeMeta.{NodeMeta}
 use Rattle.port_tables.specs.declared.node_entry.FreeNodeEntry.{FreeNodeEntry}
 use Rattle.port_tables.specs.declared.node_entry.NodeSlot.{NodeSlot}
-use Rattle.port_tables.specs.declared.node_entry.NodeEntry.{NodeEntry}
 use Rattle.port_tables.specs.declared.node_entry.NodeEntry.TheVariants as node_variants
 use Rattle.portgraph.specs.declared.portgraph.PortGraph.{PortGraph}
 use Rattle.portgraph.specs.declared.resize.PortsSet.{PortsSet}
@@ -125,10 +124,6 @@ module _ (heads : List ℕ) (len size head : ℕ) (some : size ≡ 0 → ⊥) (f
   pub no_block : head ≡ 0 → port_slots < len + size → None ≡ find_block heads len size
   unfolding find_block_under
   no_block e h = rw (ne_eqb size 0 some, ← first, eq-eqb head 0 e, lt-leb (len + size) port_slots h)
-
-  pub block_of_list : (place : ℕ) → (head ≡ 0 → ⊥) → place ≡ head - 1 → Some place ≡ find_block heads len size
-  unfolding find_block_under
-  block_of_list place e f = rw (ne_eqb size 0 some, ← first, ne_eqb head 0 e, f)
 
 -- The block that is found.
 
@@ -253,10 +248,6 @@ module _ (g : PortGraph) (m : NodeMeta) (n i o f oi oo ki ko : ℕ) (ef : f ≡ 
       let after : rest ≡ head_after g size = rest_after g size first positive (rw esize found) head next rest ehead enext erest in
       rw (et₃, et₂, eold, eow', eow, eheads', eheads, elen, ep, es, elinks', elinks, emore, et₁, et, ecuts, ecount, ehead, after, ecap, esize, eki, eko, ei, eo, ef)
 
--- what the node table holds at a place that the code has computed
-pub entry_at_lem : (g : PortGraph) (n place : ℕ) (e : NodeEntry) → place ≡ n → entry_at g place ≡ e → entry_at g n ≡ e
-entry_at_lem g n place e h f = ap (entry_at g) (sym h) ∙ f
-
 pub block_found_lem : (heads : List ℕ) (len size total : ℕ) (r f : Option ℕ) → size ≡ round_up total → r ≡ find_block heads len size → r ≡ f → find_block heads len (round_up total) ≡ f
 block_found_lem heads len size total r f e h k = rw (← e) (sym h ∙ k)
 
@@ -280,14 +271,7 @@ module _ (g : PortGraph) (n i o room : ℕ) where
     unfolding plan_of_under
     plan_unknown x e = rw (le-leb (i + o) node_ports few, e)
 
-    pub plan_outside : length g.node_meta ≤ n → plan_of g n i o room ≡ refuse (Err set_error.UnknownNode)
-    plan_outside h = plan_unknown _ (ap (λ (s : NodeSlot). s.entry) (get_or-eq_default g.node_meta fresh_slot h))
-
     module _ (m : NodeMeta) (e : entry_at g n ≡ node_variants.Node m) where
-      pub plan_short : room < 3 * (m.incoming + m.outgoing) → plan_of g n i o room ≡ refuse (Err set_error.MovesTooShort)
-      unfolding plan_of_under
-      plan_short h = rw (le-leb (i + o) node_ports few, e, lt-leb (3 * (m.incoming + m.outgoing)) room h)
-
       module _ (h : 3 * (m.incoming + m.outgoing) ≤ room) where
         pub plan_same : same_counts m i o ≡ true → plan_of g n i o room ≡ same
         unfolding plan_of_under

@@ -1,8 +1,7 @@
 -- Taking and giving back node slots and blocks: what a found slot or block is, and which definition the stores of a call amount to.
 -- A law of a found slot takes the equation that says so; the last laws give the graph and answer of a whole call, field by field.
 use Rattle.std.specs.Prelude.{◌≡◌, refl, Bool, true, false, cond, List, ℕ, ◌+◌, ◌-◌, ◌≤◌, ◌<◌, eqb, leb, ltb, length, get_or, set, Some, None, Ok, Err}
-use Rattle.std.proofs.Common.{ap, ◌∙◌, arith, set-set, lt-ltb, le-ltb, le-leb, eq-eqb, ne_eqb, ltb-true, leb-true, leb-false, eqb-true}
-use Rattle.std.proofs.Math.ListN.{get_or-eq_default}
+use Rattle.std.proofs.Common.{ap, ◌∙◌, arith, set-set, le-ltb, le-leb, eq-eqb, ne_eqb, ltb-true, leb-true, leb-false, eqb-true}
 use Rattle.std.proofs.Math.Seq.{set_out}
 use Rattle.std.proofs.lemmas.Bool.{lt-leb, eqb-false}
 use Rattle.port_tables.specs.Limits.{node_slots, port_slots, node_ports}
@@ -21,62 +20,9 @@ use Rattle.portgraph.specs.declared.alloc.NodeAdded.{NodeAdded}
 use Rattle.portgraph.specs.declared.alloc.NodeRemoved.{NodeRemoved}
 use Rattle.portgraph.specs.declared.alloc.AddError.TheVariants as add_error
 
--- Which case of a definition applies.
-pub slot_at_end : (free len : ℕ) → free ≡ 0 → len < node_slots → Some len ≡ find_slot free len
-unfolding find_slot_under
-slot_at_end free len e h = rw (eq-eqb free 0 e, lt-ltb len node_slots h)
-
-pub slot_nowhere : (free len : ℕ) → free ≡ 0 → node_slots ≤ len → None ≡ find_slot free len
-unfolding find_slot_under
-slot_nowhere free len e h = rw (eq-eqb free 0 e, le-ltb len node_slots h)
-
-pub slot_from_list : (free len : ℕ) → (free ≡ 0 → ⊥) → Some (free - 1) ≡ find_slot free len
-unfolding find_slot_under
-slot_from_list free len n = rw (ne_eqb free 0 n)
-
-pub block_of_nothing : (heads : List ℕ) (len size : ℕ) → size ≡ 0 → Some 0 ≡ find_block heads len size
-unfolding find_block_under
-block_of_nothing heads len size e = rw (eq-eqb size 0 e)
-
 pub block_at_end : (heads : List ℕ) (len size : ℕ) → (size ≡ 0 → ⊥) → head_at heads size ≡ 0 → len + size ≤ port_slots → Some len ≡ find_block heads len size
 unfolding find_block_under
 block_at_end heads len size n e h = rw (ne_eqb size 0 n, eq-eqb (head_at heads size) 0 e, le-leb (len + size) port_slots h)
-
-pub block_nowhere : (heads : List ℕ) (len size : ℕ) → (size ≡ 0 → ⊥) → head_at heads size ≡ 0 → port_slots < len + size → None ≡ find_block heads len size
-unfolding find_block_under
-block_nowhere heads len size n e h = rw (ne_eqb size 0 n, eq-eqb (head_at heads size) 0 e, lt-leb (len + size) port_slots h)
-
-pub block_from_list : (heads : List ℕ) (len size : ℕ) → (size ≡ 0 → ⊥) → (head_at heads size ≡ 0 → ⊥) → Some (head_at heads size - 1) ≡ find_block heads len size
-unfolding find_block_under
-block_from_list heads len size n e = rw (ne_eqb size 0 n, ne_eqb (head_at heads size) 0 e)
-
-pub rest_of_none : (head next : ℕ) → head ≡ 0 → 0 ≡ rest_of head next
-unfolding rest_of
-rest_of_none head next e = rw (eq-eqb head 0 e)
-
-pub rest_of_some : (head next : ℕ) → (head ≡ 0 → ⊥) → next ≡ rest_of head next
-unfolding rest_of
-rest_of_some head next n = rw (ne_eqb head 0 n)
-
-pub grown_at_end : (head len size : ℕ) → head ≡ 0 → len + size ≡ grown head len size
-unfolding grown
-grown_at_end head len size e = rw (eq-eqb head 0 e)
-
-pub grown_from_list : (head len size : ℕ) → (head ≡ 0 → ⊥) → len ≡ grown head len size
-unfolding grown
-grown_from_list head len size n = rw (ne_eqb head 0 n)
-
-pub slot_after_none : (code other : ℕ) → code ≡ 0 → other ≡ slot_after code other
-unfolding slot_after
-slot_after_none code other e = rw (eq-eqb code 0 e)
-
-pub slot_after_some : (code other : ℕ) → (code ≡ 0 → ⊥) → code ≤ node_slots → code - 1 ≡ slot_after code other
-unfolding slot_after
-slot_after_some code other n h = rw (ne_eqb code 0 n, le-leb code node_slots h)
-
-pub slot_after_outside : (code other : ℕ) → (code ≡ 0 → ⊥) → node_slots < code → other ≡ slot_after code other
-unfolding slot_after
-slot_after_outside code other n h = rw (ne_eqb code 0 n, lt-leb code node_slots h)
 
 -- What a found slot is: from the list, or at the end of the used part.
 pub data SlotIs (free len n : ℕ) : Type 0 where
@@ -224,9 +170,6 @@ node_added g i o n b {next} {free} {after} {nlen} {head} {link} {first} {plen} {
 pub no_node : (g : PortGraph) (n : ℕ) {f : FreeNodeEntry} → entry_at g n ≡ node_variants.Free f → ◌≡◌ {A = NodeRemoved} (record { graph = g; answer = Err (record {}) }) (remove_node g n)
 unfolding remove_node
 no_node g n e = rw e
-
-pub no_node_outside : (g : PortGraph) (n : ℕ) → length g.node_meta ≤ n → ◌≡◌ {A = NodeRemoved} (record { graph = g; answer = Err (record {}) }) (remove_node g n)
-no_node_outside g n h = no_node g n (ap (λ (s : NodeSlot). s.entry) (get_or-eq_default g.node_meta fresh_slot h))
 
 pub removed_numbers : {r s : NodeRemoved} → r ≡ s → (r ≡ s) × (remove_numbers r.answer ≡ remove_numbers s.answer)
 removed_numbers e = (e, ap (λ (x : NodeRemoved). remove_numbers x.answer) e)

@@ -9,7 +9,7 @@ use Rattle.port_tables.specs.Entries.{fresh_slot, is_node, port_entry, owner_num
 use Rattle.portgraph.specs.Model.{Model, Good, Holds, Wf, live, held as held_by, owner_in_block, owner_of_slots, owner_of_who}
 use Rattle.portgraph.specs.Lookups.{entry_at, meta_at, is_some, contains_node, port_at, is_port, contains_port, start_of, offset_in, offset_of, port_offset}
 use Rattle.port_tables.specs.ResizeLinks.{BlockFits}
-use Rattle.portgraph.specs.WfFacts.{block_fits}
+use Rattle.portgraph.specs.LookupSteps.{found_block_fits}
 use Rattle.portgraph.specs.PlaceLaws.{entry_of_owner, meta_of_node}
 use Rattle.portgraph.specs.Walks.{node_from, node_held, step_nodes, port_held, ports_item, ports_beyond, step_ports, offset_found, offset_of_step, step_offsets}
 use Rattle.port_tables.specs.declared.direction.Direction.{Direction}
@@ -506,18 +506,11 @@ step_at g c m first place p end e h a b d f =
 pub item_given : (n : ℕ) (sides : Sides) (p end : ℕ) → p < end → Some (port# p, ports_cursor n sides (p + 1)) ≡ ports_item n sides p end
 item_given n sides p end l = ap (λ k. Some (port# p, ports_cursor n sides k)) (add-one p) ∙ sym (item_there n sides p end l)
 
-entry_of_some : (e : NodeEntry) (m : NodeMeta) → meta_of_entry e ≡ Some m → e ≡ Node m
-entry_of_some (Free f) m h = let z : ◌≡◌ {A = ℕ} 0 1 = cc in absurd (omega arith)
-entry_of_some (Node l) m h = cc
+-- the ports of a block lie within the tables, and so do those of a node
+pub ports_end_within : (m : NodeMeta) (sides : Sides) → BlockFits m → ports_to m sides ≤ port_slots
+ports_end_within m (One Incoming) fits = let a = fits.ends in let b = fits.ports in omega arith
+ports_end_within m (One Outgoing) fits = let a = fits.ends in let b = fits.ports in omega arith
+ports_end_within m Both fits = let a = fits.ends in let b = fits.ports in omega arith
 
--- the ports of a node lie within the tables
 pub ports_end_inside : (g : PortGraph) → Wf g → (n : ℕ) (m : NodeMeta) (sides : Sides) → meta_at g n ≡ Some m → ports_to m sides ≤ port_slots
-ports_end_inside g w n m sides e = go sides
-  where
-    fits : BlockFits m
-    fits = block_fits g w n m (entry_of_some (entry_at g n) m e)
-
-    go : (s : Sides) → ports_to m s ≤ port_slots
-    go (One Incoming) = let a = fits.ends in let b = fits.ports in omega arith
-    go (One Outgoing) = let a = fits.ends in let b = fits.ports in omega arith
-    go Both = let a = fits.ends in let b = fits.ports in omega arith
+ports_end_inside g w n m sides e = ports_end_within m sides (found_block_fits g w n m (sym e))

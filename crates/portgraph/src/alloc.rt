@@ -4,9 +4,9 @@ ghost use Rattle.port_tables.specs.Limits.{node_slots, port_slots};
 ghost use Rattle.portgraph.specs.Model.{Wf};
 ghost use Rattle.portgraph.specs.Calls.{find_slot, find_block, rest_of, grown, slot_after, add_node, add_numbers, remove_node, remove_numbers};
 
-use crate::portgraph::PortGraph;
+use crate::portgraph::{PortGraph, meta_of};
 use port_tables::index::{FREE_LISTS, NODE_SLOTS, NodeIndex, PORT_SLOTS, PortIndex};
-use port_tables::node_entry::{NodeEntry, NodeMeta, NodeSlot};
+use port_tables::node_entry::{NodeMeta, NodeSlot};
 use port_tables::numbers::wide;
 use port_tables::resize_links::too_many_ports;
 use port_tables::tables::{at, chain_block, cut_range, fill, head_at, own_block, put_head};
@@ -22,7 +22,9 @@ pub enum AddError {
 #[derive(Clone, Copy)]
 pub struct NoSuchNode;
 
-// By value with its answer, the form asked for (docs/DECISIONS.md). Stays a struct of its own: definitions and theorems name it.
+// By value with its answer, the form asked for (docs/DECISIONS.md). Each call has a struct of its own: one for all would be written out with its answer,
+// as Answered<Result<(NodeIndex, PortIndex), AddError>>, in every signature and definition, and is no plainer. A refusal is returned beside the graph, which
+// `?` would not give back.
 #[derive(Clone, Copy)]
 pub struct NodeAdded {
     pub graph: PortGraph,
@@ -30,6 +32,7 @@ pub struct NodeAdded {
     pub answer: Result<(NodeIndex, PortIndex), AddError>,
 }
 
+// A struct of its own, as NodeAdded.
 #[derive(Clone, Copy)]
 pub struct NodeRemoved {
     pub graph: PortGraph,
@@ -43,15 +46,12 @@ pub fn find_slot(free: u32, len: usize) -> Option<usize>
     ensures { result ≡ find_slot free len }
 {
     if free == 0 {
-        if len < NODE_SLOTS {
-            return Some(len);
-        }
-        return None;
+        return (len < NODE_SLOTS).then_some(len);
     }
     Some(wide(free - 1))
 }
 
-// The block that is taken next: the one of exactly this size freed last, else the end.
+// The block that is taken next: the one of exactly this size freed last, else the end. Stays beside `find_slot`: a block has a size, and one of 0 takes nothing.
 #[tactic(auto, unfolding(crate::specs::Calls::find_block_under))]
 pub fn find_block(heads: &[u32; FREE_LISTS], len: usize, size: usize) -> Option<usize>
     requires { (len ≤ port_slots) × (size ≤ port_slots) }
@@ -62,10 +62,7 @@ pub fn find_block(heads: &[u32; FREE_LISTS], len: usize, size: usize) -> Option<
     }
     let head = head_at(heads, size);
     if head == 0 {
-        if len + size <= PORT_SLOTS {
-            return Some(len);
-        }
-        return None;
+        return (len + size <= PORT_SLOTS).then_some(len);
     }
     Some(wide(head - 1))
 }
@@ -93,13 +90,11 @@ pub fn slot_after(code: u32, other: usize) -> usize
     requires { other < node_slots }
     ensures { (result ≡ slot_after code other) × (result < node_slots) }
 {
-    if code == 0 {
-        return other;
+    if code == 0 || NODE_SLOTS < wide(code) {
+        other
+    } else {
+        wide(code - 1)
     }
-    if wide(code) <= NODE_SLOTS {
-        return wide(code - 1);
-    }
-    other
 }
 
 impl PortGraph {
@@ -148,8 +143,8 @@ impl PortGraph {
         self.port_len = grown(head, self.port_len, size);
         fill(&mut self.port_link, first as u32, size as u16, 0);
         own_block(&mut self.port_meta, node as u32, meta);
-        self.node_count = self.node_count + 1;
-        self.port_count = self.port_count + size;
+        self.node_count += 1;
+        self.port_count += size;
         NodeAdded {
             graph: self,
             answer: Ok((NodeIndex(node as u32), PortIndex(first as u32))),
@@ -162,21 +157,13 @@ impl PortGraph {
         requires { Wf self }
         ensures { (result ≡ remove_node self node.0) × (remove_numbers result.answer ≡ remove_numbers (remove_node self node.0).answer) }
     {
-        let place = wide(node.0);
-        if NODE_SLOTS <= place {
-            return NodeRemoved {
-                graph: self,
-                answer: Err(NoSuchNode),
-            };
-        }
-        let slot = self.node_meta[place];
-        let entry = slot.entry;
-        let NodeEntry::Node(meta) = entry else {
+        let Some(meta) = meta_of(&self.node_meta, node) else {
             return NodeRemoved {
                 graph: self,
                 answer: Err(NoSuchNode),
             };
         };
+        let place = wide(node.0);
         let first = wide(meta.first_port.0);
         let size = usize::from(meta.capacity);
         let after = slot_after(self.node_free, place);

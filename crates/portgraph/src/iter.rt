@@ -3,13 +3,14 @@
 // Cursors, no Iterator: the graph may change between two steps, so a walk borrows none.
 ghost use Rattle.std.specs.Prelude.{◌≡◌};
 ghost use Rattle.portgraph.specs.Model.{Wf};
-ghost use Rattle.portgraph.specs.Walks.{node_held, step_nodes, nodes_step_numbers, port_held, step_ports, ports_step_numbers, start_ports, ports_start_numbers, step_offsets, offsets_step_numbers, start_offsets, offsets_start_numbers};
+ghost use Rattle.portgraph.specs.Walks.{node_held, step_nodes, nodes_step_numbers, step_ports, ports_step_numbers, start_ports, ports_start_numbers, step_offsets, offsets_step_numbers, start_offsets, offsets_start_numbers};
 
 use crate::alloc::NoSuchNode;
+use crate::link_iter::{node_left, ports_left};
 use crate::portgraph::PortGraph;
 use port_tables::index::{NODE_SLOTS, NodeIndex, PortIndex, PortOffset};
 use port_tables::numbers::wide;
-use port_tables::sides::{Sides, ports_from, ports_to};
+use port_tables::sides::Sides;
 
 // A walk over the nodes, by ascending number.
 #[derive(Clone, Copy)]
@@ -43,9 +44,9 @@ impl PortGraph {
     pub fn ports(self, node: NodeIndex, sides: Sides) -> Result<NodePorts, NoSuchNode>
         ensures { (result ≡ start_ports self node sides) × (ports_start_numbers result ≡ ports_start_numbers (start_ports self node sides)) }
     {
-        let Some(_) = self.node_meta_valid(node) else {
+        if !self.contains_node(node) {
             return Err(NoSuchNode);
-        };
+        }
         Ok(NodePorts {
             node: node,
             sides: sides,
@@ -65,20 +66,7 @@ impl PortGraph {
     fn node_held(self, held: u32) -> bool
         ensures { result ≡ node_held self held }
     {
-        if held == 0 {
-            return true;
-        }
-        self.contains_node(NodeIndex(held - 1))
-    }
-
-    // Whether the port that a cursor holds is still there.
-    fn port_held(self, held: u32) -> bool
-        ensures { result ≡ port_held self held }
-    {
-        if held == 0 {
-            return true;
-        }
-        self.contains_port(PortIndex(held - 1))
+        held == 0 || self.contains_node(NodeIndex(held - 1))
     }
 }
 
@@ -87,42 +75,28 @@ impl Nodes {
         ensures { (result ≡ step_nodes graph self.held) × (nodes_step_numbers result ≡ nodes_step_numbers (step_nodes graph self.held)) }
     {
         let held = self.held;
-        if graph.node_held(held) {
-            for n in wide(held)..NODE_SLOTS {
-                let slot = graph.node_meta[n];
-                if slot.is_node() {
-                    return Some((NodeIndex(n as u32), Nodes { held: n as u32 + 1 }));
-                }
-            }
+        if !graph.node_held(held) {
+            return None;
         }
-        None
+        let n = (wide(held)..NODE_SLOTS).find(|n| graph.node_meta[*n].is_node())?;
+        Some((NodeIndex(n as u32), Nodes { held: n as u32 + 1 }))
     }
 }
 
 impl NodePorts {
-    #[tactic(auto, unfolding(crate::specs::Walks::step_ports))]
     pub fn step(self, graph: PortGraph) -> Option<(PortIndex, NodePorts)>
         requires { Wf graph }
         ensures { (result ≡ step_ports graph self) × (ports_step_numbers result ≡ ports_step_numbers (step_ports graph self)) }
     {
-        let held = self.held;
-        if graph.port_held(held) {
-            let node = self.node;
-            let sides = self.sides;
-            let meta = graph.node_meta_valid(node)?;
-            let port = ports_from(meta, sides).max(wide(held));
-            if port < ports_to(meta, sides) {
-                return Some((
-                    PortIndex(port as u32),
-                    NodePorts {
-                        node: node,
-                        sides: sides,
-                        held: port as u32 + 1,
-                    },
-                ));
-            }
-        }
-        None
+        let meta = node_left(&graph.node_meta, &graph.port_meta, self.node, self.held)?;
+        let port = ports_left(meta, self.sides, self.held).next()?;
+        Some((
+            PortIndex(port as u32),
+            NodePorts {
+                held: port as u32 + 1,
+                ..self
+            },
+        ))
     }
 }
 

@@ -2,19 +2,21 @@
 // its number; 0 at the start. Stays a number: a walk goes on from it.
 // A step searches the tables where they lie, so that it copies no more of the graph than one node slot.
 // Cursors, no Iterator: the graph may change between two steps, so a walk borrows none.
-ghost use Rattle.std.specs.Prelude.{◌≡◌, ◌-◌};
+ghost use Rattle.std.specs.Prelude.{◌≡◌, ◌-◌, ◌≤◌, ◌<◌, IfSome};
 ghost use Rattle.port_tables.specs.Limits.{port_slots};
+ghost use Rattle.port_tables.specs.ResizeLinks.{BlockFits};
 ghost use Rattle.portgraph.specs.Model.{Wf};
-ghost use Rattle.portgraph.specs.LinkWalks.{far_in, owner_in, is_port_in, held_in, is_kept, link_kept, is_of, link_to, step_links, links_numbers, start_links, links_start_numbers, step_neighbours, neighbours_numbers, start_neighbours, neighbours_start_numbers, step_connections, connections_numbers, start_connections, connections_start_numbers, step_all_ports, all_ports_numbers, first_where, before, ports_left, own_ports};
+ghost use Rattle.portgraph.specs.LinkWalks.{is_port_in, held_in, is_kept, link_kept, is_of, link_to, step_links, links_numbers, start_links, links_start_numbers, step_neighbours, neighbours_numbers, start_neighbours, neighbours_start_numbers, step_connections, connections_numbers, start_connections, connections_start_numbers, step_all_ports, all_ports_numbers, first_where, before, node_left, ports_left, own_ports};
 
 use crate::alloc::NoSuchNode;
-use crate::portgraph::PortGraph;
+use crate::portgraph::{PortGraph, meta_of};
 use port_tables::direction::Direction;
-use port_tables::index::{NODE_SLOTS, NodeIndex, PORT_SLOTS, PortIndex};
-use port_tables::node_entry::{NodeEntry, NodeSlot};
+use port_tables::index::{NODE_SLOTS, NodeIndex, PORT_SLOTS, PortIndex, PortRange};
+use port_tables::node_entry::{NodeMeta, NodeSlot};
 use port_tables::numbers::wide;
 use port_tables::sides::{Sides, ports_from, ports_to};
-use port_tables::tables::at;
+use port_tables::tables::{at, far_in, owner_in};
+use std::ops::Range;
 
 // A link, from the port where it was found.
 #[derive(Clone, Copy)]
@@ -23,13 +25,13 @@ pub struct Link {
     pub to: PortIndex,
 }
 
-// A walk over the links of a node; links to a port from `skip_from` on, `skip_to` excluded, are left out.
+// A walk over the links of a node; links to the ports of a range are left out.
+// Stays flat, as the next two: with a NodePorts in it `self.ports.node` would stand for `self.node`, and connections have no sides.
 #[derive(Clone, Copy)]
 pub struct NodeLinks {
     pub node: NodeIndex,
     pub sides: Sides,
-    pub skip_from: u32,
-    pub skip_to: u32,
+    pub skip: PortRange,
     pub held: u32,
 }
 
@@ -57,28 +59,6 @@ pub struct Ports {
     pub held: u32,
 }
 
-// Consecutive port slots, the end excluded.
-#[derive(Clone, Copy)]
-pub struct Span {
-    pub from: usize,
-    pub to: usize,
-}
-
-// The port that a port is linked with; 0 for none, which no caller asks for.
-fn far_in(links: &[u32; PORT_SLOTS], port: usize) -> u32
-    ensures { result ≡ far_in links.now port }
-{
-    at(links, port).saturating_sub(1)
-}
-
-// The node that has a port; 0 for none, which no caller asks for.
-#[tactic(auto, unfolding(crate::specs::LinkWalks::owner_in, port_tables::specs::Entries::port_entry))]
-fn owner_in(owners: &[u32; PORT_SLOTS], port: usize) -> u32
-    ensures { result ≡ owner_in owners.now port }
-{
-    at(owners, port).saturating_sub(1) / 2
-}
-
 // Whether a port is live.
 #[tactic(auto, unfolding(crate::specs::LinkWalks::is_port_in, port_tables::specs::Entries::port_entry))]
 fn is_port_in(owners: &[u32; PORT_SLOTS], port: usize) -> bool
@@ -92,37 +72,24 @@ fn is_port_in(owners: &[u32; PORT_SLOTS], port: usize) -> bool
 fn held_in(owners: &[u32; PORT_SLOTS], held: u32) -> bool
     ensures { result ≡ held_in owners.now held }
 {
-    if held == 0 {
-        return true;
-    }
-    is_port_in(owners, wide(held - 1))
+    held == 0 || is_port_in(owners, wide(held - 1))
 }
 
-// Whether there is a link and its far port, given one higher than its number, lies outside a span.
+// Whether there is a link and its far port, given one higher than its number, lies outside a range. The range is tested here and in multi_tables, each by its
+// own definition, in one line.
 #[tactic(auto, unfolding(crate::specs::LinkWalks::is_kept))]
-fn is_kept(far: u32, skip: Span) -> bool
+fn is_kept(far: u32, skip: PortRange) -> bool
     ensures { result ≡ is_kept far skip.from skip.to }
 {
-    if far == 0 {
-        return false;
-    }
-    let port = wide(far - 1);
-    if port < skip.from {
-        return true;
-    }
-    skip.to <= port
+    far != 0 && (far - 1 < skip.from || skip.to <= far - 1)
 }
 
-// The first port of a span whose link leads outside another.
-fn next_link(links: &[u32; PORT_SLOTS], left: Span, skip: Span) -> Option<usize>
-    ensures { result ≡ before left.to (first_where (link_kept links.now skip.from skip.to) left.from (left.to - left.from)) }
+// The first of these ports whose link leads outside a range.
+fn next_link(links: &[u32; PORT_SLOTS], mut left: Range<usize>, skip: PortRange) -> Option<usize>
+    ensures is { result ≡ before left.end (first_where (link_kept links.now skip.from skip.to) left.start (left.end - left.start)) }
+    ensures within { IfSome result (λ p. p < left.end) }
 {
-    for port in left.from..left.to {
-        if is_kept(at(links, port), skip) {
-            return Some(port);
-        }
-    }
-    None
+    left.find(|port| is_kept(at(links, *port), skip))
 }
 
 // Whether an owner's number is that of a port of a node.
@@ -130,14 +97,11 @@ fn next_link(links: &[u32; PORT_SLOTS], left: Span, skip: Span) -> Option<usize>
 fn is_of(owner: u32, node: u32) -> bool
     ensures { result ≡ is_of node owner }
 {
-    if owner == 0 {
-        return false;
-    }
-    (owner - 1) / 2 == node
+    owner != 0 && (owner - 1) / 2 == node
 }
 
-// Whether a port is linked with a port of a node.
-#[tactic(auto, unfolding(crate::specs::LinkWalks::link_to))]
+// Whether a port is linked with a port of a node. Takes two tables and no graph: it reads no more.
+#[tactic(auto, unfolding(crate::specs::LinkWalks::link_to, port_tables::specs::Tables::far_in))]
 fn link_to<'a>(
     links: &'a [u32; PORT_SLOTS],
     owners: &'a [u32; PORT_SLOTS],
@@ -147,76 +111,69 @@ fn link_to<'a>(
     ensures { result ≡ link_to links.now owners.now node port }
 {
     let far = at(links, port);
-    if far == 0 {
-        return false;
-    }
-    is_of(at(owners, wide(far - 1)), node)
+    far != 0 && is_of(at(owners, wide(far - 1)), node)
 }
 
-// The first port of a span that is linked with a port of a node.
+// The first of these ports that is linked with a port of a node.
 fn next_link_to<'a>(
     links: &'a [u32; PORT_SLOTS],
     owners: &'a [u32; PORT_SLOTS],
-    left: Span,
+    mut left: Range<usize>,
     node: u32,
 ) -> Option<usize>
-    ensures { result ≡ before left.to (first_where (link_to links.now owners.now node) left.from (left.to - left.from)) }
+    ensures is { result ≡ before left.end (first_where (link_to links.now owners.now node) left.start (left.end - left.start)) }
+    ensures within { IfSome result (λ p. p < left.end) }
 {
-    for port in left.from..left.to {
-        if link_to(links, owners, node, port) {
-            return Some(port);
-        }
-    }
-    None
+    left.find(|port| link_to(links, owners, node, *port))
 }
 
 // The first live port from a slot on.
 fn next_port(owners: &[u32; PORT_SLOTS], from: usize) -> Option<usize>
-    ensures { result ≡ before port_slots (first_where (is_port_in owners.now) from (port_slots - from)) }
+    ensures is { result ≡ before port_slots (first_where (is_port_in owners.now) from (port_slots - from)) }
+    ensures within { IfSome result (λ p. p < port_slots) }
 {
-    for port in from..PORT_SLOTS {
-        if is_port_in(owners, port) {
-            return Some(port);
-        }
-    }
-    None
+    (from..PORT_SLOTS).find(|port| is_port_in(owners, *port))
 }
 
-// The ports that a walk over a node's ports has left; none where the port that it holds is gone.
-#[tactic(auto, unfolding(crate::specs::LinkWalks::ports_left))]
-fn ports_left(slot: NodeSlot, sides: Sides, held: u32, there: bool) -> Span
-    ensures { result ≡ ports_left slot.entry sides held there }
+// The node at which a walk goes on; none where it is gone, or the port that the walk holds.
+#[tactic(auto, unfolding(crate::specs::LinkWalks::node_left), using(crate::specs::LookupSteps::length_of_map, crate::specs::LookupSteps::node_outside))]
+pub(crate) fn node_left<'a>(
+    nodes: &'a [NodeSlot; NODE_SLOTS],
+    owners: &'a [u32; PORT_SLOTS],
+    node: NodeIndex,
+    held: u32,
+) -> Option<NodeMeta>
+    ensures { result ≡ node_left nodes.now owners.now node.0 held }
 {
-    let entry = slot.entry;
-    let NodeEntry::Node(meta) = entry else {
-        return Span { from: 0, to: 0 };
-    };
-    if there {
-        return Span {
-            from: ports_from(meta, sides).max(wide(held)),
-            to: ports_to(meta, sides),
-        };
+    if !held_in(owners, held) {
+        return None;
     }
-    Span { from: 0, to: 0 }
+    meta_of(nodes, node)
+}
+
+// The ports that a walk over a node's ports has left.
+#[tactic(auto, unfolding(crate::specs::LinkWalks::ports_left), using(crate::specs::WalkLaws::ports_end_within))]
+pub(crate) fn ports_left(meta: NodeMeta, sides: Sides, held: u32) -> Range<usize>
+    requires { BlockFits meta }
+    ensures { (result ≡ ports_left meta sides held) × (result.end ≤ port_slots) }
+{
+    ports_from(meta, sides).max(wide(held))..ports_to(meta, sides)
 }
 
 // A node's outgoing ports, where the flag asks to leave them out.
 #[tactic(auto, unfolding(crate::specs::LinkWalks::own_ports))]
-fn own_ports(slot: NodeSlot, flag: bool) -> Span
-    ensures { result ≡ own_ports slot.entry flag }
+fn own_ports(meta: NodeMeta, flag: bool) -> PortRange
+    requires { BlockFits meta }
+    ensures { result ≡ own_ports meta flag }
 {
-    let entry = slot.entry;
-    let NodeEntry::Node(meta) = entry else {
-        return Span { from: 0, to: 0 };
-    };
-    if flag {
-        let outgoing = Sides::One(Direction::Outgoing);
-        return Span {
-            from: ports_from(meta, outgoing),
-            to: ports_to(meta, outgoing),
-        };
+    if !flag {
+        return PortRange { from: 0, to: 0 };
     }
-    Span { from: 0, to: 0 }
+    let outgoing = Sides::One(Direction::Outgoing);
+    PortRange {
+        from: ports_from(meta, outgoing) as u32,
+        to: ports_to(meta, outgoing) as u32,
+    }
 }
 
 impl PortGraph {
@@ -225,21 +182,19 @@ impl PortGraph {
         self,
         node: NodeIndex,
         sides: Sides,
-        skip_from: u32,
-        skip_to: u32,
+        skip: PortRange,
     ) -> Result<NodeLinks, NoSuchNode>
-        ensures { (result ≡ start_links self node sides skip_from skip_to) × (links_start_numbers result ≡ links_start_numbers (start_links self node sides skip_from skip_to)) }
+        ensures { (result ≡ start_links self node sides skip) × (links_start_numbers result ≡ links_start_numbers (start_links self node sides skip)) }
     {
-        if self.contains_node(node) {
-            return Ok(NodeLinks {
-                node: node,
-                sides: sides,
-                skip_from: skip_from,
-                skip_to: skip_to,
-                held: 0,
-            });
+        if !self.contains_node(node) {
+            return Err(NoSuchNode);
         }
-        Err(NoSuchNode)
+        Ok(NodeLinks {
+            node: node,
+            sides: sides,
+            skip: skip,
+            held: 0,
+        })
     }
 
     // Starts a walk over the neighbours of a node on one side or both.
@@ -251,15 +206,15 @@ impl PortGraph {
     ) -> Result<Neighbours, NoSuchNode>
         ensures { (result ≡ start_neighbours self node sides ignore_self) × (neighbours_start_numbers result ≡ neighbours_start_numbers (start_neighbours self node sides ignore_self)) }
     {
-        if self.contains_node(node) {
-            return Ok(Neighbours {
-                node: node,
-                sides: sides,
-                ignore_self: ignore_self,
-                held: 0,
-            });
+        if !self.contains_node(node) {
+            return Err(NoSuchNode);
         }
-        Err(NoSuchNode)
+        Ok(Neighbours {
+            node: node,
+            sides: sides,
+            ignore_self: ignore_self,
+            held: 0,
+        })
     }
 
     // Starts a walk over the links from one node's outgoing side to another node.
@@ -270,16 +225,14 @@ impl PortGraph {
     ) -> Result<NodeConnections, NoSuchNode>
         ensures { (result ≡ start_connections self from to) × (connections_start_numbers result ≡ connections_start_numbers (start_connections self from to)) }
     {
-        if self.contains_node(from) {
-            if self.contains_node(to) {
-                return Ok(NodeConnections {
-                    node: from,
-                    target: to,
-                    held: 0,
-                });
-            }
+        if !self.contains_node(from) || !self.contains_node(to) {
+            return Err(NoSuchNode);
         }
-        Err(NoSuchNode)
+        Ok(NodeConnections {
+            node: from,
+            target: to,
+            held: 0,
+        })
     }
 
     // Starts a walk over all ports.
@@ -295,33 +248,19 @@ impl NodeLinks {
         requires { Wf graph }
         ensures { (result ≡ step_links graph self) × (links_numbers result ≡ links_numbers (step_links graph self)) }
     {
-        let node = self.node;
-        let place = wide(node.0);
-        if place < NODE_SLOTS {
-            let sides = self.sides;
-            let slot = graph.node_meta[place];
-            let there = held_in(&graph.port_meta, self.held);
-            let left = ports_left(slot, sides, self.held, there);
-            let skip = Span {
-                from: wide(self.skip_from),
-                to: wide(self.skip_to),
-            };
-            let port = next_link(&graph.port_link, left, skip)?;
-            return Some((
-                Link {
-                    from: PortIndex(port as u32),
-                    to: PortIndex(far_in(&graph.port_link, port)),
-                },
-                NodeLinks {
-                    node: node,
-                    sides: sides,
-                    skip_from: self.skip_from,
-                    skip_to: self.skip_to,
-                    held: port as u32 + 1,
-                },
-            ));
-        }
-        None
+        let meta = node_left(&graph.node_meta, &graph.port_meta, self.node, self.held)?;
+        let left = ports_left(meta, self.sides, self.held);
+        let port = next_link(&graph.port_link, left, self.skip)?;
+        Some((
+            Link {
+                from: PortIndex(port as u32),
+                to: PortIndex(far_in(&graph.port_link, port)),
+            },
+            NodeLinks {
+                held: port as u32 + 1,
+                ..self
+            },
+        ))
     }
 }
 
@@ -330,27 +269,18 @@ impl Neighbours {
         requires { Wf graph }
         ensures { (result ≡ step_neighbours graph self) × (neighbours_numbers result ≡ neighbours_numbers (step_neighbours graph self)) }
     {
-        let node = self.node;
-        let place = wide(node.0);
-        if place < NODE_SLOTS {
-            let sides = self.sides;
-            let slot = graph.node_meta[place];
-            let there = held_in(&graph.port_meta, self.held);
-            let left = ports_left(slot, sides, self.held, there);
-            let skip = own_ports(slot, self.ignore_self);
-            let port = next_link(&graph.port_link, left, skip)?;
-            let far = far_in(&graph.port_link, port);
-            return Some((
-                NodeIndex(owner_in(&graph.port_meta, wide(far))),
-                Neighbours {
-                    node: node,
-                    sides: sides,
-                    ignore_self: self.ignore_self,
-                    held: port as u32 + 1,
-                },
-            ));
-        }
-        None
+        let meta = node_left(&graph.node_meta, &graph.port_meta, self.node, self.held)?;
+        let left = ports_left(meta, self.sides, self.held);
+        let skip = own_ports(meta, self.ignore_self);
+        let port = next_link(&graph.port_link, left, skip)?;
+        let far = far_in(&graph.port_link, port);
+        Some((
+            NodeIndex(owner_in(&graph.port_meta, far)),
+            Neighbours {
+                held: port as u32 + 1,
+                ..self
+            },
+        ))
     }
 }
 
@@ -359,27 +289,20 @@ impl NodeConnections {
         requires { Wf graph }
         ensures { (result ≡ step_connections graph self) × (connections_numbers result ≡ connections_numbers (step_connections graph self)) }
     {
-        let node = self.node;
         let target = self.target;
-        let place = wide(node.0);
-        if place < NODE_SLOTS {
-            let slot = graph.node_meta[place];
-            let there = held_in(&graph.port_meta, self.held);
-            let left = ports_left(slot, Sides::One(Direction::Outgoing), self.held, there);
-            let port = next_link_to(&graph.port_link, &graph.port_meta, left, target.0)?;
-            return Some((
-                Link {
-                    from: PortIndex(port as u32),
-                    to: PortIndex(far_in(&graph.port_link, port)),
-                },
-                NodeConnections {
-                    node: node,
-                    target: target,
-                    held: port as u32 + 1,
-                },
-            ));
-        }
-        None
+        let meta = node_left(&graph.node_meta, &graph.port_meta, self.node, self.held)?;
+        let left = ports_left(meta, Sides::One(Direction::Outgoing), self.held);
+        let port = next_link_to(&graph.port_link, &graph.port_meta, left, target.0)?;
+        Some((
+            Link {
+                from: PortIndex(port as u32),
+                to: PortIndex(far_in(&graph.port_link, port)),
+            },
+            NodeConnections {
+                held: port as u32 + 1,
+                ..self
+            },
+        ))
     }
 }
 
@@ -387,15 +310,15 @@ impl Ports {
     pub fn step(self, graph: PortGraph) -> Option<(PortIndex, Ports)>
         ensures { (result ≡ step_all_ports graph self) × (all_ports_numbers result ≡ all_ports_numbers (step_all_ports graph self)) }
     {
-        if held_in(&graph.port_meta, self.held) {
-            let port = next_port(&graph.port_meta, wide(self.held))?;
-            return Some((
-                PortIndex(port as u32),
-                Ports {
-                    held: port as u32 + 1,
-                },
-            ));
+        if !held_in(&graph.port_meta, self.held) {
+            return None;
         }
-        None
+        let port = next_port(&graph.port_meta, wide(self.held))?;
+        Some((
+            PortIndex(port as u32),
+            Ports {
+                held: port as u32 + 1,
+            },
+        ))
     }
 }

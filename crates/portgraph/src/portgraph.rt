@@ -1,13 +1,14 @@
 // The single-link graph: its tables, lookups, counts and links.
-ghost use Rattle.std.specs.Prelude.{◌≡◌, ◌-◌};
-ghost use Rattle.port_tables.specs.Entries.{port_entry_numbers};
+ghost use Rattle.std.specs.Prelude.{◌≡◌, ◌<◌, get_or, IfSome};
+ghost use Rattle.port_tables.specs.Entries.{fresh_slot, meta_of_entry, port_entry_numbers};
+ghost use Rattle.port_tables.specs.Limits.{node_slots};
 ghost use Rattle.portgraph.specs.Model.{Wf};
 ghost use Rattle.portgraph.specs.Lookups.{meta_at, meta_numbers, port_at, port_direction, maybe_direction_numbers, port_node, maybe_node_numbers, port_offset, maybe_offset_numbers, port_index, maybe_port_numbers, port_link, port_link_numbers, num_ports, node_port_capacity, contains_node, contains_port, is_empty};
 ghost use Rattle.portgraph.specs.Calls.{new_graph, link_ports, link_numbers, unlink_port};
 
 use port_tables::direction::Direction;
 use port_tables::index::{FREE_LISTS, NODE_SLOTS, NodeIndex, PORT_SLOTS, PortIndex, PortOffset};
-use port_tables::node_entry::{NodeEntry, NodeMeta, NodeSlot};
+use port_tables::node_entry::{NodeMeta, NodeSlot};
 use port_tables::numbers::wide;
 use port_tables::port_entry::PortEntry;
 use port_tables::sides::{Sides, ports_from};
@@ -52,17 +53,32 @@ pub enum LinkError {
     AlreadyLinked(PortIndex),
 }
 
-// By value with its answer, the form asked for (docs/DECISIONS.md). Stays a struct of its own: definitions and theorems name it.
+// A struct of its own, as NodeAdded.
 #[derive(Clone, Copy)]
 pub struct PortsLinked {
     pub graph: PortGraph,
     pub answer: Result<(PortIndex, PortIndex), LinkError>,
 }
 
+// A struct of its own, as NodeAdded.
 #[derive(Clone, Copy)]
 pub struct PortUnlinked {
     pub graph: PortGraph,
     pub answer: Result<Option<PortIndex>, NoSuchPort>,
+}
+
+// The meta data of a node in the table of nodes, if it is live.
+#[tactic(auto, using(crate::specs::LookupSteps::length_of_map, crate::specs::LookupSteps::node_outside))]
+pub(crate) fn meta_of(nodes: &[NodeSlot; NODE_SLOTS], node: NodeIndex) -> Option<NodeMeta>
+    ensures is { result ≡ meta_of_entry (get_or nodes.now node.0 fresh_slot).entry }
+    ensures within { IfSome result (λ m. node.0 < node_slots) }
+{
+    let place = wide(node.0);
+    if NODE_SLOTS <= place {
+        return None;
+    }
+    let slot = nodes[place];
+    slot.meta()
 }
 
 impl PortGraph {
@@ -85,20 +101,10 @@ impl PortGraph {
     }
 
     // The meta data of a node, if it is live.
-    #[tactic(auto, using(crate::specs::LookupSteps::length_of_map, crate::specs::LookupSteps::node_outside))]
     pub fn node_meta_valid(self, node: NodeIndex) -> Option<NodeMeta>
         ensures { (result ≡ meta_at self node.0) × (meta_numbers result ≡ meta_numbers (meta_at self node.0)) }
     {
-        let place = wide(node.0);
-        if NODE_SLOTS <= place {
-            return None;
-        }
-        let slot = self.node_meta[place];
-        let entry = slot.entry;
-        let NodeEntry::Node(meta) = entry else {
-            return None;
-        };
-        Some(meta)
+        meta_of(&self.node_meta, node)
     }
 
     // The owner and direction of a port, if it is live.
@@ -111,21 +117,13 @@ impl PortGraph {
     pub fn port_direction(self, port: PortIndex) -> Option<Direction>
         ensures { (result ≡ port_direction self port.0) × (maybe_direction_numbers result ≡ maybe_direction_numbers (port_direction self port.0)) }
     {
-        let PortEntry::Port(meta) = PortEntry::read(at(&self.port_meta, wide(port.0))) else {
-            return None;
-        };
-        let direction = meta.direction;
-        Some(direction)
+        Some(self.port_meta_valid(port).meta()?.direction)
     }
 
     pub fn port_node(self, port: PortIndex) -> Option<NodeIndex>
         ensures { (result ≡ port_node self port.0) × (maybe_node_numbers result ≡ maybe_node_numbers (port_node self port.0)) }
     {
-        let PortEntry::Port(meta) = PortEntry::read(at(&self.port_meta, wide(port.0))) else {
-            return None;
-        };
-        let node = meta.node;
-        Some(node)
+        Some(self.port_meta_valid(port).meta()?.node)
     }
 
     // The side and position of a port.
@@ -133,27 +131,11 @@ impl PortGraph {
     pub fn port_offset(self, port: PortIndex) -> Option<PortOffset>
         ensures { (result ≡ port_offset self port.0) × (maybe_offset_numbers result ≡ maybe_offset_numbers (port_offset self port.0)) }
     {
-        let place = wide(port.0);
-        if PORT_SLOTS <= place {
-            return None;
-        }
-        let PortEntry::Port(owner) = PortEntry::read(at(&self.port_meta, place)) else {
-            return None;
-        };
-        let node = owner.node;
-        let meta = self.node_meta_valid(node)?;
+        let owner = self.port_meta_valid(port).meta()?;
+        let meta = self.node_meta_valid(owner.node)?;
         let direction = owner.direction;
-        let within = place.saturating_sub(wide(meta.first_port.0));
-        match direction {
-            Direction::Incoming => Some(PortOffset {
-                direction: direction,
-                index: within as u16,
-            }),
-            Direction::Outgoing => Some(PortOffset {
-                direction: direction,
-                index: within.saturating_sub(usize::from(meta.incoming)) as u16,
-            }),
-        }
+        let first = ports_from(meta, Sides::One(direction));
+        Some(PortOffset::new(direction, wide(port.0).saturating_sub(first) as u16))
     }
 
     // The port at a side and position of a node.
@@ -176,35 +158,24 @@ impl PortGraph {
         ensures { (result ≡ port_link self port.0) × (port_link_numbers result ≡ port_link_numbers (port_link self port.0)) }
     {
         let place = wide(port.0);
-        let PortEntry::Port(_) = PortEntry::read(at(&self.port_meta, place)) else {
-            return Err(NoSuchPort(port));
-        };
+        self.port_meta_valid(port).meta().ok_or(NoSuchPort(port))?;
         let far = at(&self.port_link, place);
-        if far == 0 {
-            Ok(None)
-        } else {
-            Ok(Some(PortIndex(far - 1)))
-        }
+        Ok(far.checked_sub(1).map(PortIndex))
     }
 
     // The number of ports of a node on one side; 0 for a node that is not live.
     pub fn num_ports(self, node: NodeIndex, direction: Direction) -> usize
         ensures { result ≡ num_ports self node.0 direction }
     {
-        let Some(meta) = self.node_meta_valid(node) else {
-            return 0;
-        };
-        meta.num_ports(direction)
+        self.node_meta_valid(node)
+            .map_or(0, |meta| meta.num_ports(direction))
     }
 
     // The slots of a node's block; 0 for a node that is not live.
     pub fn node_port_capacity(self, node: NodeIndex) -> usize
         ensures { result ≡ node_port_capacity self node.0 }
     {
-        let Some(meta) = self.node_meta_valid(node) else {
-            return 0;
-        };
-        meta.capacity()
+        self.node_meta_valid(node).map_or(0, |meta| meta.capacity())
     }
 
     pub fn contains_node(self, node: NodeIndex) -> bool
@@ -216,19 +187,13 @@ impl PortGraph {
     pub fn contains_port(self, port: PortIndex) -> bool
         ensures { result ≡ contains_port self port.0 }
     {
-        let PortEntry::Port(_) = PortEntry::read(at(&self.port_meta, wide(port.0))) else {
-            return false;
-        };
-        true
+        self.port_node(port).is_some()
     }
 
     pub fn is_empty(self) -> bool
         ensures { result ≡ is_empty self }
     {
-        if self.node_count == 0 {
-            return self.port_count == 0;
-        }
-        false
+        self.node_count == 0 && self.port_count == 0
     }
 
     pub fn node_count(self) -> usize
@@ -257,13 +222,13 @@ impl PortGraph {
     {
         let a = wide(port_a.0);
         let b = wide(port_b.0);
-        let PortEntry::Port(meta_a) = PortEntry::read(at(&self.port_meta, a)) else {
+        let Some(meta_a) = PortEntry::read(at(&self.port_meta, a)).meta() else {
             return PortsLinked {
                 graph: self,
                 answer: Err(LinkError::UnknownPort(port_a)),
             };
         };
-        let PortEntry::Port(meta_b) = PortEntry::read(at(&self.port_meta, b)) else {
+        let Some(meta_b) = PortEntry::read(at(&self.port_meta, b)).meta() else {
             return PortsLinked {
                 graph: self,
                 answer: Err(LinkError::UnknownSecondPort(port_b)),
@@ -290,7 +255,7 @@ impl PortGraph {
             };
         }
         link_both(&mut self.port_link, port_a.0, port_b.0);
-        self.link_count = self.link_count + 1;
+        self.link_count += 1;
         PortsLinked {
             graph: self,
             answer: Ok((port_a, port_b)),
@@ -303,7 +268,7 @@ impl PortGraph {
         ensures { (result ≡ unlink_port self port.0) × (port_link_numbers result.answer ≡ port_link_numbers (unlink_port self port.0).answer) }
     {
         let place = wide(port.0);
-        let PortEntry::Port(_) = PortEntry::read(at(&self.port_meta, place)) else {
+        let Some(_) = PortEntry::read(at(&self.port_meta, place)).meta() else {
             return PortUnlinked {
                 graph: self,
                 answer: Err(NoSuchPort(port)),
@@ -311,15 +276,9 @@ impl PortGraph {
         };
         let far = cut(&mut self.port_link, place);
         self.link_count = without_link(self.link_count, far);
-        if far == 0 {
-            return PortUnlinked {
-                graph: self,
-                answer: Ok(None),
-            };
-        }
         PortUnlinked {
             graph: self,
-            answer: Ok(Some(PortIndex(far - 1))),
+            answer: Ok(far.checked_sub(1).map(PortIndex)),
         }
     }
 }

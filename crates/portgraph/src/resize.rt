@@ -8,9 +8,9 @@ ghost use Rattle.portgraph.specs.Resize.{set_by, inside_told, anew_told, inside,
 ghost use Rattle.port_tables.specs.ResizeLinks.{BlockFits, round_up};
 
 use crate::alloc::{find_block, grown, rest_of};
-use crate::portgraph::PortGraph;
+use crate::portgraph::{PortGraph, meta_of};
 use port_tables::index::{NODE_SLOTS, NodeIndex};
-use port_tables::node_entry::{NodeEntry, NodeSlot};
+use port_tables::node_entry::NodeSlot;
 use port_tables::numbers::wide;
 use port_tables::resize_links::{Resize, round_up, too_many_ports};
 use port_tables::tables::{at, chain_block, cut_range, fill, head_at, own_block, put_head};
@@ -26,7 +26,7 @@ pub enum SetError {
     NoRoom,
 }
 
-// By value with its answer, the form asked for (docs/DECISIONS.md). Stays a struct of its own: definitions and theorems name it.
+// A struct of its own, as NodeAdded.
 #[derive(Clone, Copy)]
 pub struct PortsSet {
     pub graph: PortGraph,
@@ -136,16 +136,7 @@ impl PortGraph {
                 answer: Err(SetError::TooManyPorts),
             };
         }
-        let place = wide(node.0);
-        if NODE_SLOTS <= place {
-            return PortsSet {
-                graph: self,
-                answer: Err(SetError::UnknownNode),
-            };
-        }
-        let slot = self.node_meta[place];
-        let entry = slot.entry;
-        let NodeEntry::Node(meta) = entry else {
+        let Some(meta) = meta_of(&self.node_meta, node) else {
             return PortsSet {
                 graph: self,
                 answer: Err(SetError::UnknownNode),

@@ -1,4 +1,4 @@
--- What the requests' tests say, and numbers that fit a word.
+-- What a request asks, and numbers that fit a word.
 use Rattle.std.specs.Prelude.{◌≡◌, refl, Bool, true, false, cond, List, [], ◌∷◌, ℕ, ◌+◌, ◌*◌, ◌≤◌, ◌<◌, leb, Option, Some, None, Result, Ok, Err}
 use Rattle.std.proofs.Common.{sym, ap, subst, ◌∙◌}
 use native.Mathlib.Omega.{arith}
@@ -18,19 +18,20 @@ use Rattle.port_tables.specs.declared.node_entry.NodeEntry.TheVariants as node_v
 use Rattle.portgraph.specs.declared.portgraph.PortGraph.{PortGraph}
 use Rattle.multiportgraph.specs.Reading.{is_hidden}
 use Rattle.multiportgraph.specs.Calls.{set_as, set_counts, visible_nodes, visible_ports, visible_links}
-use Rattle.theorems.specs.Book.{add_call, remove_call, set_call, link_call, link_sub_call, cut_call, cut_sub_call}
+use Rattle.std.specs.Bool.{then_some}
 use Rattle.multiportgraph.specs.WellFormed.{MultiWf}
 use Rattle.multiportgraph.specs.PrepareSteps.{lower_wf}
 use Rattle.multiportgraph.specs.declared.multiportgraph.PortsSet.{PortsSet}
 use Rattle.multiportgraph.specs.declared.multiportgraph.MultiPortGraph.{MultiPortGraph}
 use Rattle.multi_tables.specs.declared.answers.Refusal.{Refusal}
 use Rattle.multi_tables.specs.declared.answers.Refusal.TheVariants.{BadOffset, TooManyPorts, UnknownNode, HiddenNode, MovesTooShort, UnknownPort, HiddenPort, UnknownOffset, NoRoom, UnknownSecondPort, IncompatibleDirections, AlreadyLinked, InputWired}
+use Rattle.multi_tables.specs.Forms.{subport#, good_offset}
 use Rattle.records.specs.Words.{word_at, request_at}
-use Rattle.records.specs.Run.{Asked, call, link_of, counts, refused, all_zero, offsets, asked, asked_by, without_place, numbers, five}
-use Rattle.records.specs.Forms.{EventsFit}
+use Rattle.records.specs.Run.{Asked, refused, all_zero, unused, offsets, counts, asked, asked_by, without_place, numbers, five}
+use Rattle.records.specs.Forms.{meant, meant_by, CountsFit, EventsFit}
+use Rattle.records.specs.declared.requests.Ask.{Ask}
 use Rattle.multiportgraph.specs.Answers.{cut_numbers}
 use Rattle.multi_tables.specs.EndAnswers.{refusal_numbers, unplaced, unplaced_numbers}
-use Rattle.multiportgraph.specs.HiddenNodes.{enough}
 use Rattle.multiportgraph.specs.Cases.{set_refused, set_meta}
 use Rattle.multiportgraph.specs.CaseLaws.{set_cases}
 use Rattle.multi_tables.specs.declared.answers.SubportIndex.{SubportIndex}
@@ -110,75 +111,57 @@ module _ (m : MultiPortGraph) (n incoming outgoing room : ℕ) (small : room < 4
       (λ _. meta_fits (meta_at m.graph n)) tt)
 
 -- The visible counts fit a word.
-module _ (m : MultiPortGraph) (w : MultiWf m) where
-  pub nodes_fit : visible_nodes m < 4294967296
-  unfolding visible_nodes
-  nodes_fit = let h = node_count_fits m.graph (lower_wf m w) in omega arith
+pub counts_fit : (m : MultiPortGraph) {n p l : ℕ} → MultiWf m → n ≡ visible_nodes m → p ≡ visible_ports m → l ≡ visible_links m → CountsFit n p l
+unfolding visible_nodes visible_ports visible_links
+counts_fit m w e f g =
+    let h = lower_wf m w in
+    let i = node_count_fits m.graph h in
+    let j = port_count_fits m.graph h in
+    let k = link_count_fits m.graph h in
+    (omega arith, omega arith, omega arith)
 
-  pub ports_fit : visible_ports m < 4294967296
-  unfolding visible_ports
-  ports_fit = let h = port_count_fits m.graph (lower_wf m w) in omega arith
+-- What a request asks.
 
-  pub links_fit : visible_links m < 4294967296
-  unfolding visible_links
-  links_fit = let h = link_count_fits m.graph (lower_wf m w) in omega arith
+-- a call whose unused words are 0
+pub then_asked : {r : Option Ask} {t : Bool} (l : List ℕ) (x : Ask) → r ≡ then_some t x → t ≡ all_zero l → meant_by r ≡ unused l (meant x)
+then_asked {t = t} l x e z = ap meant_by e ∙ go t ∙ ap (λ (b : Bool). cond b (meant x) refused) z
+  where
+    go : (t : Bool) → meant_by (then_some t x) ≡ cond t (meant x) refused
+    go true = refl
+    go false = refl
 
--- Tests on a request's words.
+-- a subport whose offset may be so large
+pub offset_good : {s : SubportIndex} (f : ℕ → ℕ → Asked) (p o : ℕ) → (o < 65535) × (s ≡ subport# p o) → f s.port.0 s.subport_offset ≡ offsets (o ∷ []) (f p o)
+offset_good f p o h = rw (lt-ltb o 65535 h.0) (ap (λ (s : SubportIndex). f s.port.0 s.subport_offset) h.1)
 
-pub offset_bad : (o : ℕ) (l : List ℕ) (x : Asked) → 65535 ≤ o → refused ≡ offsets (o ∷ l) x
-offset_bad o l x h = rw (le-ltb o 65535 h)
+pub offsets_good : {s t : SubportIndex} (f : ℕ → ℕ → ℕ → ℕ → Asked) (p o q r : ℕ) → (o < 65535) × (s ≡ subport# p o) → (r < 65535) × (t ≡ subport# q r)
+    → f s.port.0 s.subport_offset t.port.0 t.subport_offset ≡ offsets (o ∷ r ∷ []) (f p o q r)
+offsets_good f p o q r h k = rw (lt-ltb o 65535 h.0, lt-ltb r 65535 k.0) (λ j. f (h.1 j).port.0 (h.1 j).subport_offset (k.1 j).port.0 (k.1 j).subport_offset)
 
-pub offset_good : (o : ℕ) (l : List ℕ) (x y : Asked) → o < 65535 → y ≡ offsets l x → y ≡ offsets (o ∷ l) x
-offset_good o l x y h e = rw (lt-ltb o 65535 h) e
+-- or may not
+pub offset_bad : {r : Option Ask} (o : ℕ) (l : List ℕ) (x : Asked) → r ≡ None → 65535 ≤ o → meant_by r ≡ offsets (o ∷ l) x
+offset_bad o l x e h = ap meant_by e ∙ rw (le-ltb o 65535 h) refl
 
--- What each code asks.
-module _ (code a b c d : ℕ) (x : Asked) where
-  pub asks_add : (t : Bool) → code ≡ 1 → t ≡ all_zero (0 ∷ 0 ∷ c ∷ d ∷ []) → x ≡ cond t (call (add_call a b)) refused → x ≡ asked_by code a b c d
-  unfolding asked_by
-  asks_add t p e h = rw (p, ← e) h
+pub second_bad : {r : Option Ask} (o : ℕ) {p : ℕ} (l : List ℕ) (x : Asked) → r ≡ None → 65535 ≤ p → meant_by r ≡ offsets (o ∷ p ∷ l) x
+second_bad o {p} l x e h = ap meant_by e ∙ rw (le-ltb p 65535 h) (go (good_offset o))
+  where
+    go : (t : Bool) → refused ≡ cond (cond t false false) x refused
+    go true = refl
+    go false = refl
 
-  pub asks_remove : (t : Bool) → code ≡ 2 → t ≡ all_zero (0 ∷ b ∷ c ∷ d ∷ []) → x ≡ cond t (call (remove_call a)) refused → x ≡ asked_by code a b c d
-  unfolding asked_by
-  asks_remove t p e h = rw (p, ← e) h
+-- which is refused, whatever the unused words are
+pub unused_bad : {r : Option Ask} (o : ℕ) (l : List ℕ) (x : Asked) → r ≡ None → 65535 ≤ o → meant_by r ≡ unused l (offsets (o ∷ []) x)
+unused_bad o l x e h = ap meant_by e ∙ rw (le-ltb o 65535 h) (go (all_zero l))
+  where
+    go : (t : Bool) → refused ≡ cond t refused refused
+    go true = refl
+    go false = refl
 
-  pub asks_resize : (t : Bool) → code ≡ 3 → t ≡ all_zero (0 ∷ 0 ∷ 0 ∷ d ∷ []) → x ≡ cond t (call (set_call a b c enough)) refused → x ≡ asked_by code a b c d
-  unfolding asked_by
-  asks_resize t p e h = rw (p, ← e) h
-
-  pub asks_link : (t : Bool) → code ≡ 4 → t ≡ all_zero (0 ∷ 0 ∷ c ∷ d ∷ []) → x ≡ cond t (call (link_call a b)) refused → x ≡ asked_by code a b c d
-  unfolding asked_by
-  asks_link t p e h = rw (p, ← e) h
-
-  pub asks_unlink : (t : Bool) → code ≡ 5 → t ≡ all_zero (0 ∷ b ∷ c ∷ d ∷ []) → x ≡ cond t (call (cut_call a)) refused → x ≡ asked_by code a b c d
-  unfolding asked_by
-  asks_unlink t p e h = rw (p, ← e) h
-
-  pub asks_link_subports : code ≡ 6 → x ≡ offsets (b ∷ d ∷ []) (call (link_sub_call a b c d)) → x ≡ asked_by code a b c d
-  unfolding asked_by
-  asks_link_subports p h = rw p h
-
-  pub asks_unlink_subport : (t : Bool) (y : Asked) → code ≡ 7 → t ≡ all_zero (0 ∷ 0 ∷ c ∷ d ∷ []) → y ≡ offsets (b ∷ []) (call (cut_sub_call a b)) → x ≡ cond t y refused → x ≡ asked_by code a b c d
-  unfolding asked_by
-  asks_unlink_subport t y p e f h = rw (p, ← e, ← f) h
-
-  pub asks_subport_link : (t : Bool) (y : Asked) → code ≡ 8 → t ≡ all_zero (0 ∷ 0 ∷ c ∷ d ∷ []) → y ≡ offsets (b ∷ []) (link_of a b) → x ≡ cond t y refused → x ≡ asked_by code a b c d
-  unfolding asked_by
-  asks_subport_link t y p e f h = rw (p, ← e, ← f) h
-
-  pub asks_counts : (t : Bool) → code ≡ 9 → t ≡ all_zero (a ∷ b ∷ c ∷ d ∷ []) → x ≡ cond t counts refused → x ≡ asked_by code a b c d
-  unfolding asked_by
-  asks_counts t p e h = rw (p, ← e) h
-
-module _ (code a b c d : ℕ) where
-  pub asks_nothing : code ≡ 0 → refused ≡ asked_by code a b c d
-  unfolding asked_by
-  asks_nothing p = rw p
-
-  pub asks_unknown : (code ≡ 1 → ⊥) → (code ≡ 2 → ⊥) → (code ≡ 3 → ⊥) → (code ≡ 4 → ⊥) → (code ≡ 5 → ⊥) → (code ≡ 6 → ⊥) → (code ≡ 7 → ⊥) → (code ≡ 8 → ⊥) → (code ≡ 9 → ⊥)
-      → refused ≡ asked_by code a b c d
-  unfolding asked_by
-  asks_unknown n₁ n₂ n₃ n₄ n₅ n₆ n₇ n₈ n₉ =
-      rw (ne_eqb code 1 n₁, ne_eqb code 2 n₂, ne_eqb code 3 n₃, ne_eqb code 4 n₄, ne_eqb code 5 n₅, ne_eqb code 6 n₆, ne_eqb code 7 n₇, ne_eqb code 8 n₈, ne_eqb code 9 n₉)
+pub asks_nothing : (code a b c d : ℕ) → (code ≡ 1 → ⊥) → (code ≡ 2 → ⊥) → (code ≡ 3 → ⊥) → (code ≡ 4 → ⊥) → (code ≡ 5 → ⊥) → (code ≡ 6 → ⊥) → (code ≡ 7 → ⊥) → (code ≡ 8 → ⊥) → (code ≡ 9 → ⊥)
+    → refused ≡ asked_by code a b c d
+unfolding asked_by
+asks_nothing code a b c d n₁ n₂ n₃ n₄ n₅ n₆ n₇ n₈ n₉ =
+    rw (ne_eqb code 1 n₁, ne_eqb code 2 n₂, ne_eqb code 3 n₃, ne_eqb code 4 n₄, ne_eqb code 5 n₅, ne_eqb code 6 n₆, ne_eqb code 7 n₇, ne_eqb code 8 n₈, ne_eqb code 9 n₉)
 
 -- The answer of a variant.
 pub told : {A : Type 0} (f : A → List ℕ) (x y : A) (r : List ℕ) → r ≡ five (f y) → x ≡ y → r ≡ five (f x)
@@ -220,7 +203,7 @@ pub events_word : (x : Result ℕ Refusal) (e : ℕ) → x ≡ Ok e → EventsFi
 events_word x e h f = subst EventsFit h f
 
 -- the five words at a byte position
-pub request_read : (bytes : List ℕ) (i code a b c d : ℕ) (x : Asked) → x ≡ asked_by code a b c d → code ≡ word_at bytes i → a ≡ word_at bytes (i + 4) → b ≡ word_at bytes (i + 8)
-    → c ≡ word_at bytes (i + 12) → d ≡ word_at bytes (i + 16) → x ≡ asked (request_at bytes i)
+pub request_read : (bytes : List ℕ) (i : ℕ) {code a b c d : ℕ} → code ≡ word_at bytes i → a ≡ word_at bytes (i + 4) → b ≡ word_at bytes (i + 8)
+    → c ≡ word_at bytes (i + 12) → d ≡ word_at bytes (i + 16) → asked_by code a b c d ≡ asked (request_at bytes i)
 unfolding request_at
-request_read bytes i code a b c d x h e₁ e₂ e₃ e₄ e₅ = rw (← e₁, ← e₂, ← e₃, ← e₄, ← e₅) h
+request_read bytes i e₁ e₂ e₃ e₄ e₅ = rw (e₁, e₂, e₃, e₄, e₅) refl

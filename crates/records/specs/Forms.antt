@@ -1,10 +1,9 @@
--- The code's forms of what the definitions say: the enum of what is asked, the struct of five words, and when an event count fits a word.
-use Rattle.std.specs.Prelude.{List, [], ◌∷◌, ℕ, ◌<◌, Result, Ok, Err}
+-- The code's forms of what the definitions say: the enum of what is asked, and when an event count or the counts of a graph fit a word.
+use Rattle.std.specs.Prelude.{ℕ, ◌<◌, Option, Some, None, Result, Ok, Err}
 use Rattle.theorems.specs.Book.{add_call, remove_call, set_call, link_call, link_sub_call, cut_call, cut_sub_call}
 use Rattle.records.specs.Run.{Asked, call, link_of, counts, refused}
 use Rattle.records.specs.declared.requests.Ask.{Ask}
 use Rattle.records.specs.declared.requests.Ask.TheVariants as ask
-use Rattle.records.specs.declared.answers.Answer5.{Answer5}
 use Rattle.multiportgraph.specs.HiddenNodes.{enough}
 use Rattle.multi_tables.specs.declared.answers.Refusal.{Refusal}
 
@@ -18,10 +17,15 @@ meant (ask.LinkSubports s t) = call (link_sub_call s.port.0 s.subport_offset t.p
 meant (ask.UnlinkSubport s) = call (cut_sub_call s.port.0 s.subport_offset)
 meant (ask.SubportLink s) = link_of s.port.0 s.subport_offset
 meant ask.Counts = counts
-meant ask.Refused = refused
 
-abbrev pub words5 : Answer5 → List ℕ
-words5 x = x.a ∷ x.b ∷ x.c ∷ x.d ∷ x.e ∷ []
+-- nothing is refusal 2
+abbrev pub meant_by : Option Ask → Asked
+meant_by (Some x) = meant x
+meant_by None = refused
+
+-- the visible counts of a graph fit a word
+abbrev pub CountsFit : ℕ → ℕ → ℕ → Type 0
+CountsFit blocks ports wires = (blocks < 4294967296) × (ports < 4294967296) × (wires < 4294967296)
 
 abbrev pub EventsFit : Result ℕ Refusal → Type 0
 EventsFit (Ok e) = e < 4294967296

@@ -3,7 +3,7 @@
 -- What must be believed: that these definitions, over those of the multiport graph, say what document 01 says.
 --   Words         bytes, words and requests
 --   Run           what a request asks, its answer, the run from the empty graph of release 1, the calls of a list, and refusal 1
---   Forms         the enum and the struct in which the code holds what Run says
+--   Forms         the enum in which the code holds what Run says, and when counts fit a word
 --
 -- What is proved, and need not be believed: everything else. The laws hold of every list of requests, with no other premise:
 --   WordLaws      words_read_back: the words are read back from their bytes

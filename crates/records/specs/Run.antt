@@ -1,5 +1,6 @@
 -- The record run of 01: what a request asks, its answer, the run from the empty graph of release 1, and refusal 1.
 use Rattle.std.specs.Prelude.{◌≡◌, Bool, true, false, cond, List, [], ◌∷◌, ◌++◌, ℕ, ◌%◌, eqb, get_or, length, take}
+use Rattle.std.specs.List.{list_all}
 use Rattle.multiportgraph.specs.Calls.{subport_link, visible_nodes, visible_ports, visible_links}
 use Rattle.theorems.specs.Book.{Call, add_call, remove_call, set_call, link_call, link_clean_call, link_sub_call, cut_call, cut_sub_call, tidy_call}
 use Rattle.theorems.specs.History.{step, numbers_of}
@@ -22,8 +23,7 @@ pub data Asked : Type 0 where
   refused : Asked
 
 abbrev pub all_zero : List ℕ → Bool
-all_zero [] = true
-all_zero (w ∷ l) = cond (eqb w 0) (all_zero l) false
+all_zero = list_all (eqb 0)
 
 -- the unused words have to be 0
 abbrev pub unused : List ℕ → Asked → Asked

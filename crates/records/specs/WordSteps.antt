@@ -1,39 +1,55 @@
 -- What the leaves over bytes compute.
-use Rattle.std.specs.Prelude.{◌≡◌, List, [], ◌∷◌, ◌++◌, ℕ, suc, ◌+◌, ◌/◌, ◌%◌, ◌≤◌, ◌<◌, set, length, take, drop}
-use Rattle.std.proofs.Common.{sym, ap, ◌∙◌, append_assoc, arith}
-use Rattle.std.proofs.Math.Seq.{drop-drop}
-use Rattle.std.proofs.lemmas.List.Edits.{sets, sets-eq}
+use Rattle.std.specs.Prelude.{◌≡◌, refl, List, [], ◌∷◌, ◌++◌, ℕ, suc, ◌+◌, ◌*◌, ◌/◌, ◌%◌, ◌≤◌, ◌<◌, get_or, length, take, drop}
+use Rattle.std.proofs.Common.{sym, ap, ◌∙◌, drop-cons, length-drop, length-append, arith}
+use Rattle.std.proofs.Math.Seq.{length-sets}
+use Rattle.std.proofs.lemmas.List.Edits.{sets}
+use Rattle.port_tables.specs.ResizeLinkSteps.{sets_append}
+use Rattle.multiportgraph.specs.ListScans.{Writing}
+use Rattle.multiportgraph.specs.ListSteps.{laid}
 use Rattle.records.specs.Words.{bytes_of}
+use Rattle.records.specs.WordLaws.{bytes_append, bytes_long}
 
--- the bytes of a word
-pub four_bytes : (w : ℕ) → w < 4294967296 → w % 256 ∷ w / 256 % 256 ∷ w / 65536 % 256 ∷ w / 16777216 % 256 ∷ [] ≡ bytes_of (w ∷ [])
+-- the bytes of a word take the place of four
+pub word_laid : (l part : List ℕ) (i k w : ℕ) → i + 4 ≤ length l → w < 4294967296 → part ≡ w % 256 ∷ w / 256 % 256 ∷ w / 65536 % 256 ∷ w / 16777216 % 256 ∷ [] → k ≡ 4
+    → take i l ++ (part ++ drop k (drop i l)) ≡ sets l i (bytes_of (w ∷ []))
 unfolding bytes_of
-four_bytes w h = let e : w / 16777216 % 256 ≡ w / 16777216 = omega arith in rw e
+word_laid l part i k w h b e n =
+    let q : w / 16777216 % 256 ≡ w / 16777216 = omega arith in
+    laid l part (bytes_of (w ∷ [])) i k (omega arith) (rw q at e) n
 
--- values that take the place of as many are laid
-pub laid : (l part v : List ℕ) (i k : ℕ) → i + length v ≤ length l → part ≡ v → k ≡ length v → take i l ++ (part ++ drop k (drop i l)) ≡ sets l i v
-laid l part v i k h e n =
-    (λ j. take i l ++ (e j ++ drop (n j) (drop i l)))
-    ∙ (ap (λ (r : List ℕ). take i l ++ (v ++ r)) (drop-drop (length v) i l) ∙ (sym (append_assoc (take i l) v (drop (i + length v) l)) ∙ sym (sets-eq v l i h)))
+-- Words laid one after the other.
 
--- words are laid one after the other
-pub word_then : (l : List ℕ) (i w : ℕ) (ws : List ℕ) → sets (sets l i (bytes_of (w ∷ []))) (i + 4) (bytes_of ws) ≡ sets l i (bytes_of (w ∷ ws))
-unfolding bytes_of
-word_then l i w ws = let e : i + 4 ≡ suc (suc (suc (suc i))) = omega arith in rw e
+pub words_begin : (l : List ℕ) (at : ℕ) (words : List ℕ) → Writing l at (bytes_of words) l (at + 4 * 0) (bytes_of (drop 0 words))
+words_begin l at words = let e : at + 4 * 0 ≡ at = omega arith in record { counted = omega arith; same = ap (λ (p : ℕ). sets l p (bytes_of words)) e; long = refl }
 
-pub five_laid : (l l₁ l₂ l₃ l₄ l₅ : List ℕ) (i a b c d e : ℕ) → l₁ ≡ sets l i (bytes_of (a ∷ [])) → l₂ ≡ sets l₁ (i + 4) (bytes_of (b ∷ []))
-    → l₃ ≡ sets l₂ (i + 8) (bytes_of (c ∷ [])) → l₄ ≡ sets l₃ (i + 12) (bytes_of (d ∷ [])) → l₅ ≡ sets l₄ (i + 16) (bytes_of (e ∷ []))
-    → l₅ ≡ sets l i (bytes_of (a ∷ b ∷ c ∷ d ∷ e ∷ []))
-five_laid l l₁ l₂ l₃ l₄ l₅ i a b c d e p₁ p₂ p₃ p₄ p₅ =
-    let n₈ : i + 8 ≡ i + 4 + 4 = omega arith in
-    let n₁₂ : i + 12 ≡ i + 8 + 4 = omega arith in
-    let n₁₆ : i + 16 ≡ i + 12 + 4 = omega arith in
-    let q₄ : l₅ ≡ sets l₃ (i + 12) (bytes_of (d ∷ e ∷ [])) = p₅ ∙ rw (n₁₆, p₄) (word_then l₃ (i + 12) d (e ∷ [])) in
-    let q₃ : l₅ ≡ sets l₂ (i + 8) (bytes_of (c ∷ d ∷ e ∷ [])) = q₄ ∙ rw (n₁₂, p₃) (word_then l₂ (i + 8) c (d ∷ e ∷ [])) in
-    let q₂ : l₅ ≡ sets l₁ (i + 4) (bytes_of (b ∷ c ∷ d ∷ e ∷ [])) = q₃ ∙ rw (n₈, p₂) (word_then l₁ (i + 4) b (c ∷ d ∷ e ∷ [])) in
-    q₂ ∙ rw p₁ (word_then l i a (b ∷ c ∷ d ∷ e ∷ []))
+module _ (words : List ℕ) (i : ℕ) {l₀ l : List ℕ} {at p : ℕ} (w : Writing l₀ at (bytes_of words) l p (bytes_of (drop i words))) where
+  none_left : length words ≤ i → bytes_of (drop i words) ≡ []
+  unfolding bytes_of
+  none_left h = go (drop i words) (let d = length-drop i words in omega arith)
+    where
+      go : (k : List ℕ) → length k ≡ 0 → bytes_of k ≡ []
+      go [] e = refl
+      go (x ∷ k) e = absurd (omega arith)
 
--- a list of values is laid in two parts
-pub sets_parts : (l : List ℕ) (i : ℕ) (v w : List ℕ) → sets l i (v ++ w) ≡ sets (sets l i v) (i + length v) w
-sets_parts l i [] w = let e : i + 0 ≡ i = omega arith in rw e
-sets_parts l i (x ∷ v) w = let e : i + suc (length v) ≡ suc i + length v = omega arith in rw e (sets_parts (set l i x) (suc i) v w)
+  pub words_end : length words ≤ i → l ≡ sets l₀ at (bytes_of words)
+  words_end h = ap (sets l p) (sym (none_left h)) ∙ w.same
+
+  module _ (h : i < length words) where
+    word_on : bytes_of (drop i words) ≡ bytes_of (get_or words i 0 ∷ []) ++ bytes_of (drop (i + 1) words)
+    word_on =
+        let e : suc i ≡ i + 1 = omega arith in
+        ap bytes_of (drop-cons words i 0 h ∙ ap (λ (k : ℕ). get_or words i 0 ∷ drop k words) e) ∙ bytes_append (get_or words i 0 ∷ []) (drop (i + 1) words)
+
+    pub word_turn : {l' : List ℕ} {next : ℕ} → next ≡ p + 4 → l' ≡ sets l p (bytes_of (get_or words i 0 ∷ [])) → Writing l₀ at (bytes_of words) l' next (bytes_of (drop (i + 1) words))
+    word_turn {l'} {next} q e =
+        let u = bytes_of (get_or words i 0 ∷ []) in
+        let a = w.counted in
+        let b = ap length word_on ∙ length-append u (bytes_of (drop (i + 1) words)) in
+        let n : length u ≡ 4 = bytes_long (get_or words i 0 ∷ []) in
+        record {
+          counted = omega arith;
+          same =
+              (λ j. sets (e j) ((q ∙ ap (λ (k : ℕ). p + k) (sym n)) j) (bytes_of (drop (i + 1) words)))
+              ∙ (sets_append l p u (bytes_of (drop (i + 1) words)) ∙ (ap (sets l p) (sym word_on) ∙ w.same));
+          long = ap length e ∙ (length-sets l p u ∙ w.long);
+        }

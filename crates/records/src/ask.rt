@@ -5,17 +5,17 @@ ghost use Rattle.multiportgraph.specs.Calls.{set_counts, moves_told, cut_port, c
 ghost use Rattle.theorems.specs.Book.{link_clean_call, set_call};
 ghost use Rattle.multiportgraph.specs.WellFormed.{MultiWf};
 ghost use Rattle.records.specs.Run.{call, asked_by, Answered};
-ghost use Rattle.records.specs.Forms.{meant, words5};
+ghost use Rattle.records.specs.Forms.{meant};
 ghost use Rattle.multiportgraph.specs.Graph.{empty_graph};
 ghost use Rattle.multiportgraph.specs.HiddenNodes.{enough};
 
 use crate::answers::{
-    Answer5, add_words, count_words, cut_words, five_words, link_words, remove_words, set_words,
+    Answer5, add_words, counted, cut_words, link_words, refusal_words, remove_words, set_words,
 };
-use crate::requests::{Ask, MOVES, Request, ask_of};
-use multi_tables::answers::{SubportIndex, unplaced};
+use crate::requests::{Ask, Request, ask_of};
+use multi_tables::answers::{Refusal, SubportIndex, unplaced};
 use multiportgraph::multiportgraph::{MultiPortGraph, PortTidied, PortUnlinked, PortsSet};
-use port_tables::index::{NodeIndex, PortIndex};
+use port_tables::index::{MOVES, NodeIndex, PortIndex};
 use port_tables::release::Release;
 
 // The graph afterwards, and the five words of the answer.
@@ -33,6 +33,7 @@ pub fn empty(release: Release) -> MultiPortGraph
 }
 
 // Changes the number of ports of a block, with the caller's move list.
+#[tactic(auto, using(crate::specs::AskSteps::set_wf))]
 pub fn resize(
     graph: MultiPortGraph,
     node: u32,
@@ -49,6 +50,7 @@ pub fn resize(
 }
 
 // Cuts every wire at a port, and answers the place too, which no record has room for.
+#[tactic(auto, using(crate::specs::AskSteps::cut_wf))]
 pub fn cut_port(graph: MultiPortGraph, port: u32) -> PortUnlinked
     requires { MultiWf graph }
     ensures { (result ≡ cut_port graph port) × MultiWf result.graph }
@@ -57,6 +59,7 @@ pub fn cut_port(graph: MultiPortGraph, port: u32) -> PortUnlinked
 }
 
 // Cuts the wire at a subport, and answers the place too.
+#[tactic(auto, using(crate::specs::AskSteps::cut_sub_wf))]
 pub fn cut_subport(graph: MultiPortGraph, port: u32, offset: u16) -> PortUnlinked
     requires { MultiWf graph }
     ensures { (result ≡ cut_sub graph port offset) × MultiWf result.graph }
@@ -68,6 +71,7 @@ pub fn cut_subport(graph: MultiPortGraph, port: u32, offset: u16) -> PortUnlinke
 }
 
 // Tidies a port; no request asks for this.
+#[tactic(auto, using(crate::specs::AskSteps::tidy_wf))]
 pub fn tidy_port(graph: MultiPortGraph, port: u32) -> PortTidied
     requires { MultiWf graph }
     ensures { (result ≡ tidy_port graph port) × MultiWf result.graph }
@@ -78,7 +82,7 @@ pub fn tidy_port(graph: MultiPortGraph, port: u32) -> PortTidied
 // Links two ports and leaves no stub; no request asks for this.
 pub fn link_clean(graph: MultiPortGraph, a: u32, b: u32) -> Asked
     requires { MultiWf graph }
-    ensures { Answered graph (call (link_clean_call a b)) (words5 result.answer) result.graph }
+    ensures { Answered graph (call (link_clean_call a b)) (result.answer.0) result.graph }
 {
     let linked = graph.link_ports_clean(PortIndex(a), PortIndex(b));
     let answer = linked.answer;
@@ -92,7 +96,7 @@ pub fn link_clean(graph: MultiPortGraph, a: u32, b: u32) -> Asked
 // A resize as a request: its move list is its own, and long enough.
 fn answer_resize(graph: MultiPortGraph, node: NodeIndex, incoming: u32, outgoing: u32) -> Asked
     requires { MultiWf graph }
-    ensures { Answered graph (call (set_call node.0 incoming outgoing enough)) (words5 result.answer) result.graph }
+    ensures { Answered graph (call (set_call node.0 incoming outgoing enough)) (result.answer.0) result.graph }
 {
     let mut moves = [0u32; MOVES];
     let sized = graph.set_num_ports(node, incoming as usize, outgoing as usize, &mut moves);
@@ -105,9 +109,9 @@ fn answer_resize(graph: MultiPortGraph, node: NodeIndex, incoming: u32, outgoing
 }
 
 // What is asked of a graph: the call, and its answer. Stays beside the run over a lent graph: its calls take the graph by value, and are other functions.
-pub(crate) fn answer(graph: MultiPortGraph, asked: Ask) -> Asked
+pub fn answer(graph: MultiPortGraph, asked: Ask) -> Asked
     requires { MultiWf graph }
-    ensures { Answered graph (meant asked) (words5 result.answer) result.graph }
+    ensures { Answered graph (meant asked) (result.answer.0) result.graph }
 {
     match asked {
         Ask::Add(incoming, outgoing) => {
@@ -171,19 +175,21 @@ pub(crate) fn answer(graph: MultiPortGraph, asked: Ask) -> Asked
         },
         Ask::Counts => Asked {
             graph: graph,
-            answer: count_words(graph),
-        },
-        Ask::Refused => Asked {
-            graph: graph,
-            answer: five_words(2, 0, 0, 0, 0),
+            answer: counted(graph.node_count(), graph.port_count(), graph.link_count()),
         },
     }
 }
 
-// A request, asked of a graph.
+// A request, asked of a graph: an offset that is too large, or a word that has to be 0, is refusal 2, and so is a code that asks nothing.
 pub fn ask(graph: MultiPortGraph, request: Request) -> Asked
     requires { MultiWf graph }
-    ensures { Answered graph (asked_by request.code request.a request.b request.c request.d) (words5 result.answer) result.graph }
+    ensures { Answered graph (asked_by request.code request.a request.b request.c request.d) (result.answer.0) result.graph }
 {
-    answer(graph, ask_of(request))
+    match ask_of(request) {
+        Some(asked) => answer(graph, asked),
+        None => Asked {
+            graph: graph,
+            answer: refusal_words(Refusal::BadOffset),
+        },
+    }
 }

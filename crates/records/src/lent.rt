@@ -4,26 +4,28 @@ ghost use Rattle.port_tables.specs.NodeWords.{StaysCanonical};
 ghost use Rattle.multiportgraph.specs.WellFormed.{MultiWf};
 ghost use Rattle.multiportgraph.specs.MultiLent.{graph_of};
 ghost use Rattle.records.specs.Words.{requests_of};
-ghost use Rattle.records.specs.Run.{answer_bytes, Answered, graph_from};
-ghost use Rattle.records.specs.Forms.{meant, words5};
+ghost use Rattle.records.specs.Run.{answer_bytes, asked_by, Answered, graph_from};
+ghost use Rattle.records.specs.Forms.{meant};
 
 use crate::answers::{
-    Answer5, add_words, cut_words, five_words, link_words, put_answer, remove_words, set_words,
+    Answer5, add_words, counted, cut_words, link_words, put_answer, refusal_words, remove_words,
+    set_words,
 };
-use crate::requests::{Ask, ask_at};
+use crate::requests::{Ask, Request, ask_of, request_in};
 use lent_calls::lent_blocks::{add_lent, cut_port_lent, remove_lent, set_quiet_lent};
 use lent_ends::lent_subports::{cut_sub_lent, link_sub_lent, subport_link_lent};
 use lent_linking::lent_links::link_lent;
+use multi_tables::answers::Refusal;
 use multiportgraph::lent_graph::LentGraph;
 use port_tables::release::Release;
 
-// What a request does, and its answer.
-fn one_request(graph: &mut LentGraph, ask: Ask) -> Answer5
+// What is asked of a graph: the call, and its answer.
+fn answer_lent(graph: &mut LentGraph, asked: Ask) -> Answer5
     requires { MultiWf (graph_of graph.old) }
-    ensures { (Answered (graph_of graph.old) (meant ask) (words5 result) (graph_of graph.new))
+    ensures { (Answered (graph_of graph.old) (meant asked) result.0 (graph_of graph.new))
         × StaysCanonical graph.old.ports.nodes graph.new.ports.nodes }
 {
-    match ask {
+    match asked {
         Ask::Add(incoming, outgoing) => {
             add_words(add_lent(graph, incoming as usize, outgoing as usize))
         }
@@ -39,13 +41,19 @@ fn one_request(graph: &mut LentGraph, ask: Ask) -> Answer5
         Ask::LinkSubports(from, to) => link_words(link_sub_lent(graph, from, to)),
         Ask::UnlinkSubport(subport) => cut_words(cut_sub_lent(graph, subport)),
         Ask::SubportLink(subport) => cut_words(subport_link_lent(graph, subport)),
-        Ask::Counts => {
-            let blocks = graph.node_count();
-            let ports = graph.port_count();
-            let wires = graph.link_count();
-            five_words(0, blocks as u32, ports as u32, wires as u32, 0)
-        }
-        Ask::Refused => five_words(2, 0, 0, 0, 0),
+        Ask::Counts => counted(graph.node_count(), graph.port_count(), graph.link_count()),
+    }
+}
+
+// What a request does, and its answer.
+fn one_request(graph: &mut LentGraph, request: Request) -> Answer5
+    requires { MultiWf (graph_of graph.old) }
+    ensures { (Answered (graph_of graph.old) (asked_by request.code request.a request.b request.c request.d) result.0 (graph_of graph.new))
+        × StaysCanonical graph.old.ports.nodes graph.new.ports.nodes }
+{
+    match ask_of(request) {
+        Some(asked) => answer_lent(graph, asked),
+        None => refusal_words(Refusal::BadOffset),
     }
 }
 
@@ -55,10 +63,13 @@ pub(crate) fn run_list(requests: &[u8], answers: &mut [u8])
     ensures { answers.new ≡ answer_bytes requests.now }
 {
     let mut graph = LentGraph::new(Release::One);
-    for k in 0..requests.len() / 20 {
-        let at = 20 * k;
-        let ask = ask_at(requests, at);
-        put_answer(answers, at, one_request(&mut graph, ask));
+    // The answers are laid by place: of chunks that are lent to be written, a proof keeps the length alone.
+    for (k, request) in requests.chunks_exact(20).enumerate() {
+        put_answer(
+            answers,
+            20 * k,
+            one_request(&mut graph, request_in(request)),
+        );
     }
 }
 
@@ -69,9 +80,8 @@ pub fn run_tables(graph: &mut LentGraph, requests: &[u8])
         × MultiWf (graph_of graph.new)
         × StaysCanonical graph.old.ports.nodes graph.new.ports.nodes }
 {
-    for k in 0..requests.len() / 20 {
-        let ask = ask_at(requests, 20 * k);
+    for request in requests.chunks_exact(20) {
         // The answer goes nowhere.
-        let _ = one_request(graph, ask);
+        let _ = one_request(graph, request_in(request));
     }
 }

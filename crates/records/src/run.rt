@@ -3,9 +3,9 @@ ghost use Rattle.std.specs.Prelude.{◌≡◌, ◌%◌, length};
 ghost use Rattle.records.specs.Run.{answer_bytes, list_taken, returned, written};
 
 use crate::answers::put_answer;
-use crate::ask::{answer, empty};
+use crate::ask::{ask, empty};
 use crate::lent::run_list;
-use crate::requests::ask_at;
+use crate::requests::request_in;
 use port_tables::release::Release;
 
 // Runs a list from an empty graph of release 1, past refused calls, and lays every answer, by the calls that take the graph by value.
@@ -14,12 +14,11 @@ fn run_all(requests: &[u8], answers: &mut [u8])
     ensures { answers.new ≡ answer_bytes requests.now }
 {
     let mut graph = empty(Release::One);
-    for k in 0..requests.len() / 20 {
-        let at = 20 * k;
-        let done = answer(graph, ask_at(requests, at));
+    for (k, request) in requests.chunks_exact(20).enumerate() {
+        let done = ask(graph, request_in(request));
         let words = done.answer;
         graph = done.graph;
-        put_answer(answers, at, words);
+        put_answer(answers, 20 * k, words);
     }
 }
 

@@ -8,7 +8,6 @@ use Rattle.multiportgraph.specs.declared.multiportgraph.MultiPortGraph.{MultiPor
 use Rattle.multiportgraph.specs.declared.multiportgraph.PortsLinked.{PortsLinked}
 use Rattle.multi_tables.specs.declared.answers.Refusal.TheVariants.{NoRoom}
 use Rattle.sheets.specs.declared.sheet.SheetEntry.{SheetEntry}
-use Rattle.sheets.specs.declared.sheet.EntryLinked.{EntryLinked}
 use Rattle.sheets.specs.declared.sheet.SheetLinked.{SheetLinked}
 use Rattle.sheets.specs.declared.sheet.TooManyEntries.{TooManyEntries}
 use Rattle.multi_tables.specs.declared.answers.Refusal.{Refusal}
@@ -44,6 +43,11 @@ link_of m e = link_pair m e.port_a.0 e.port_b.0
 -- an entry keeps its ports and receives an answer
 abbrev pub with_answer : SheetEntry → Result (SubportIndex × SubportIndex) Refusal → SheetEntry
 with_answer e x = record { port_a = e.port_a; port_b = e.port_b; answer = x }
+
+-- what one entry leaves
+pub record EntryLinked : Type 0 where
+  pub graph : MultiPortGraph
+  pub entry : SheetEntry
 
 abbrev pub entry_linked : MultiPortGraph → SheetEntry → EntryLinked
 entry_linked m e = record { graph = (link_of m e).graph; entry = with_answer e (link_of m e).answer }

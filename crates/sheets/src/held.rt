@@ -1,14 +1,14 @@
-// A sheet whose caller holds its entries by value, in an array: the first places are lent, as many as there are entries. Stays an array with its count, since an array has
-// one length; over a slice there is `link_sheet`.
+// A sheet whose caller holds its entries by value, in an array: the first places are lent, as many as there are entries. Stays a function of its own, since the theorems
+// speak of it; and an array with its count, since an array has one length: over a slice there is `link_sheet`.
 ghost use Rattle.std.specs.Prelude.{◌≡◌, ◌≤◌};
 ghost use Rattle.multiportgraph.specs.WellFormed.{MultiWf};
 ghost use Rattle.sheets.specs.Held.{sheet_places, link_first, link_held};
 
-use crate::sheet::{SheetEntry, TooManyEntries, link_sheet};
+use crate::sheet::{SHEET_ENTRIES, SheetEntry, TooManyEntries, link_sheet};
 use multiportgraph::multiportgraph::MultiPortGraph;
 
 // One place more than a sheet may have entries, so that a sheet that is too long can be lent.
-pub const SHEET_PLACES: usize = 65;
+pub const SHEET_PLACES: usize = SHEET_ENTRIES + 1;
 
 #[derive(Drop)]
 pub struct HeldLinked {

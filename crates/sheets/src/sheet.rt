@@ -2,7 +2,7 @@
 // `link_ports`, a refused one included.
 ghost use Rattle.std.specs.Prelude.{◌≡◌};
 ghost use Rattle.multiportgraph.specs.WellFormed.{MultiWf};
-ghost use Rattle.sheets.specs.Sheets.{to_be_done, entry_linked, link_sheet, sheet_after, sheet_numbers};
+ghost use Rattle.sheets.specs.Sheets.{to_be_done, link_sheet, sheet_after, sheet_numbers};
 
 use multi_tables::answers::{Refusal, SubportIndex};
 use multiportgraph::multiportgraph::MultiPortGraph;
@@ -43,33 +43,6 @@ pub struct SheetLinked {
     pub answer: Result<(), TooManyEntries>,
 }
 
-// What one entry leaves.
-#[derive(Drop)]
-struct EntryLinked {
-    pub graph: MultiPortGraph,
-    pub entry: SheetEntry,
-}
-
-// One entry is done: its ports are linked, and it receives the answer.
-fn link_entry(graph: MultiPortGraph, entry: SheetEntry) -> EntryLinked
-    requires { MultiWf graph }
-    ensures { result ≡ entry_linked graph entry }
-{
-    let a = entry.port_a;
-    let b = entry.port_b;
-    let linked = graph.link_ports(a, b);
-    let answer = linked.answer;
-    let after = linked.graph;
-    EntryLinked {
-        graph: after,
-        entry: SheetEntry {
-            port_a: a,
-            port_b: b,
-            answer: answer,
-        },
-    }
-}
-
 // Links the ports of each entry, one after the other, and lays each answer in its entry. A sheet that is too long changes nothing.
 pub fn link_sheet(graph: MultiPortGraph, sheet: &mut [SheetEntry]) -> SheetLinked
     requires { MultiWf graph }
@@ -83,9 +56,9 @@ pub fn link_sheet(graph: MultiPortGraph, sheet: &mut [SheetEntry]) -> SheetLinke
     }
     let mut after = graph;
     for entry in sheet.iter_mut() {
-        let done = link_entry(after, *entry);
-        *entry = done.entry;
-        after = done.graph;
+        let linked = after.link_ports(entry.port_a, entry.port_b);
+        entry.answer = linked.answer;
+        after = linked.graph;
     }
     SheetLinked {
         graph: after,

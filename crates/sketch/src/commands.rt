@@ -8,17 +8,9 @@ use crate::listing::list;
 use crate::orders::{Command, Order, port_at};
 use crate::replies::show_count;
 use crate::sheet::link_sheet;
+use lines::named::release_of;
 use lines::show::{Line, write_bytes};
-use port_tables::release::Release;
 use sketches::totals::Sketch;
-
-// The release that a number names, 1 or 2.
-fn release_of(number: u32) -> Release {
-    if number == 1 {
-        return Release::One;
-    }
-    Release::Two
-}
 
 // An empty sketch.
 fn begin(rt: &impl Print, sketch: &mut Sketch, order: Order) {

@@ -3,29 +3,17 @@ ghost use Rattle.std.specs.Prelude.{◌≤◌};
 
 use crate::items::Item;
 use crate::orders::{Command, Order, port_at};
-use crate::replies::show_refused;
-use lines::show::show_number;
+use crate::replies::show_count;
+use lines::named::sides_of;
 use port_tables::direction::Direction;
 use port_tables::sides::Sides;
 use sketches::sketch::{Reason, SketchPort};
-use sketches::tests::{EndTest, Test};
+use sketches::tests::Test;
 use sketches::totals::Sketch;
 use sketches::walks::{SubportWalk, Walk};
 
 // More items than any walk has.
 const MOST: usize = 4294967295;
-
-// What the wires of a walk are asked.
-// Stay four matches on the command, this and the next three: the second side begins anew with the same command.
-fn test_of(order: Order, side: Direction) -> Test {
-    match order.command {
-        Command::Links | Command::Back => Test::Wire(EndTest::AtPort(port_at(order, 0))),
-        Command::NodeLinks => Test::Side(order.number(0), side),
-        Command::Neighbours => Test::Neighbour(order.number(0), side, order.number(2) == 1),
-        Command::Connections => Test::Between(order.number(0), order.number(1)),
-        _ => Test::Every,
-    }
-}
 
 // Where a walk goes on, and what it gives.
 #[derive(Clone, Copy)]
@@ -37,22 +25,37 @@ enum Cursor {
     Neighbours(Walk),
 }
 
-// The walk that a command asks for, on a side.
-fn cursor_of(order: Order, side: Direction, walk: Walk) -> Cursor {
-    match order.command {
-        Command::Blocks => Cursor::Blocks(walk),
-        Command::Subports => Cursor::Subports(SubportWalk {
-            port: SketchPort {
-                block: order.number(0),
-                side: side,
-                position: 0,
-            },
-            offset: 0,
-        }),
-        Command::Back => Cursor::Back(walk),
-        Command::Neighbours => Cursor::Neighbours(walk),
-        _ => Cursor::Wires(walk),
-    }
+// The walk that a command asks for, on a side; it is refused if the block or the port that it is asked of is not there.
+fn start(sketch: &Sketch, order: Order, side: Direction) -> Result<Cursor, Reason> {
+    let first = order.number(0);
+    Ok(match order.command {
+        Command::Blocks => Cursor::Blocks(sketch.blocks()),
+        Command::Wires => Cursor::Wires(sketch.wires(Test::Every)),
+        Command::Links => Cursor::Wires(sketch.links_of_port(port_at(order, 0))?),
+        Command::Back => Cursor::Back(sketch.links_of_port(port_at(order, 0))?),
+        Command::Subports => {
+            sketch.wires_of_block(first, Test::Every)?;
+            Cursor::Subports(SubportWalk {
+                port: SketchPort {
+                    block: first,
+                    side: side,
+                    position: 0,
+                },
+                offset: 0,
+            })
+        }
+        Command::NodeLinks => Cursor::Wires(sketch.wires_of_block(first, Test::Side(first, side))?),
+        Command::Neighbours => {
+            let test = Test::Neighbour(first, side, order.number(2) == 1);
+            Cursor::Neighbours(sketch.wires_of_block(first, test)?)
+        }
+        _ => {
+            let second = order.number(1);
+            let test = Test::Between(first, second);
+            sketch.wires_of_block(first, test)?;
+            Cursor::Wires(sketch.wires_of_block(second, test)?)
+        }
+    })
 }
 
 impl Cursor {
@@ -84,10 +87,10 @@ impl Cursor {
 }
 
 // Every item of a walk on a side, and how many there are.
-fn show_side(rt: &impl Print, sketch: &Sketch, order: Order, side: Direction, walk: Walk) -> usize
+fn show_side(rt: &impl Print, sketch: &Sketch, begun: Cursor, side: Direction) -> usize
     ensures { result ≤ 4294967295 }
 {
-    let mut cursor = cursor_of(order, side, walk);
+    let mut cursor = begun;
     for count in 0..MOST {
         let Some((item, next)) = cursor.step(sketch, side) else {
             return count;
@@ -102,59 +105,23 @@ fn show_side(rt: &impl Print, sketch: &Sketch, order: Order, side: Direction, wa
 fn sides_named(order: Order) -> Sides {
     match order.command {
         Command::Blocks | Command::Connections | Command::Wires => Sides::One(Direction::Outgoing),
-        _ => match order.number(1) {
-            0 => Sides::One(Direction::Incoming),
-            1 => Sides::One(Direction::Outgoing),
-            _ => Sides::Both,
-        },
+        _ => sides_of(order.number(1)),
     }
 }
 
-// Every item of a walk that was started, and how many there are.
-fn show_items(rt: &impl Print, sketch: &Sketch, order: Order, walk: Walk) -> usize {
+// Every item of a walk on each side that is named, and how many there are.
+fn show_items(rt: &impl Print, sketch: &Sketch, order: Order) -> Result<usize, Reason> {
     if let Sides::One(side) = sides_named(order) {
-        return show_side(rt, sketch, order, side, walk);
+        let begun = start(sketch, order, side)?;
+        return Ok(show_side(rt, sketch, begun, side));
     }
-    let incoming = show_side(rt, sketch, order, Direction::Incoming, walk);
-    let test = test_of(order, Direction::Outgoing);
-    let rest = sketch.wires(test);
-    let outgoing = show_side(rt, sketch, order, Direction::Outgoing, rest);
-    incoming + outgoing
-}
-
-// The walk between two blocks; it is refused if one of them is not there.
-fn start_between(sketch: &Sketch, from: u32, to: u32, test: Test) -> Result<Walk, Reason> {
-    sketch.wires_of_block(from, test)?;
-    sketch.wires_of_block(to, test)
-}
-
-// The walk that a command asks for, on the first side of it; it is refused if the block or the port that it is asked of is not there.
-fn start(sketch: &Sketch, order: Order) -> Result<Walk, Reason> {
-    let test = test_of(order, first_side(sides_named(order)));
-    let first = order.number(0);
-    match order.command {
-        Command::Blocks => Ok(sketch.blocks()),
-        Command::Wires => Ok(sketch.wires(test)),
-        Command::Links | Command::Back => sketch.links_of_port(port_at(order, 0)),
-        Command::Connections => start_between(sketch, first, order.number(1), test),
-        _ => sketch.wires_of_block(first, test),
-    }
-}
-
-// Both sides begin with the incoming one.
-fn first_side(sides: Sides) -> Direction {
-    match sides {
-        Sides::One(side) => side,
-        Sides::Both => Direction::Incoming,
-    }
+    let incoming = start(sketch, order, Direction::Incoming)?;
+    let outgoing = start(sketch, order, Direction::Outgoing)?;
+    let count = show_side(rt, sketch, incoming, Direction::Incoming);
+    Ok(count + show_side(rt, sketch, outgoing, Direction::Outgoing))
 }
 
 // A command that walks.
 pub(crate) fn list(rt: &impl Print, sketch: &Sketch, order: Order) {
-    match start(sketch, order) {
-        Ok(walk) => {
-            show_number(rt, show_items(rt, sketch, order, walk) as u64);
-        }
-        Err(reason) => show_refused(rt, reason),
-    }
+    show_count(rt, show_items(rt, sketch, order));
 }

@@ -12,40 +12,32 @@ use sketches::totals::Sketch;
 // One place more than a sheet has entries, so that a sheet that is too long can be handed in.
 const SHEET_PLACES: usize = SHEET_ENTRIES + 1;
 
-// A port, and where in the line its numbers end.
-#[derive(Clone, Copy)]
-pub struct PortRead {
-    pub port: SketchPort,
-    pub to: usize,
-}
-
-// The port that the next three numbers of a line name.
-fn read_port(text: &[u8], from: usize) -> PortRead {
+// The port that the next three numbers of a line name, and where they end.
+fn read_port(text: &[u8], from: usize) -> (SketchPort, usize) {
     let block = next_word(text, from);
     let side = next_word(text, block.to);
     let position = next_word(text, side.to);
-    PortRead {
-        port: SketchPort {
-            block: number_or_zero(text, block),
-            side: side_of(number_or_zero(text, side)),
-            position: number_or_zero(text, position),
-        },
-        to: position.to,
-    }
+    let port = SketchPort {
+        block: number_or_zero(text, block),
+        side: side_of(number_or_zero(text, side)),
+        position: number_or_zero(text, position),
+    };
+    (port, position.to)
 }
 
-// The entries of a line from a place on. A line may have more than there are places: the sheet is then too long with those that fit.
-fn entries_of(text: &[u8], from: usize) -> [SheetEntry; SHEET_PLACES] {
-    let mut entries = [no_entry(); SHEET_PLACES];
+// The entries of a line from a place on.
+fn put_entries(sheet: &mut [SheetEntry], text: &[u8], from: usize) {
     let mut at = from;
-    for entry in &mut entries {
-        let first = read_port(text, at);
-        let second = read_port(text, first.to);
-        entry.from = first.port;
-        entry.to = second.port;
-        at = second.to;
+    for entry in sheet {
+        let (from, end) = read_port(text, at);
+        let (to, next) = read_port(text, end);
+        *entry = SheetEntry {
+            from,
+            to,
+            ..no_entry()
+        };
+        at = next;
     }
-    entries
 }
 
 // The answers of entries.
@@ -57,13 +49,14 @@ fn show_entries(rt: &impl Print, entries: &[SheetEntry]) {
 
 // A command that links the entries of a line, one after the other.
 pub(crate) fn link_sheet(rt: &impl Print, sketch: &mut Sketch, order: Order, text: &[u8]) {
-    let count = order.entries;
-    let mut entries = entries_of(text, order.from);
-    let n = count.min(SHEET_PLACES);
-    match sketch.link_sheet(&mut entries[..n]) {
+    let mut places = [no_entry(); SHEET_PLACES];
+    // Of a line with more entries all that fit are lent: the sheet is too long with them.
+    let sheet = &mut places[..order.entries.min(SHEET_PLACES)];
+    put_entries(sheet, text, order.from);
+    match sketch.link_sheet(sheet) {
         Ok(()) => {
-            show_entries(rt, &entries[..n]);
-            show_number(rt, count as u64);
+            show_entries(rt, sheet);
+            show_number(rt, sheet.len() as u64);
         }
         Err(TooManyEntries) => {
             write_bytes(rt, b"refused 14  # a sheet has at most 64 entries\n");

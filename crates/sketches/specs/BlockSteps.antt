@@ -68,9 +68,6 @@ unfolding add_block
 add_accepted K i o h k = rw (le-leb (i + o) node_ports h, k)
 
 module _ (b s w : List Row) (h : Totals) (wf : SketchWf b s w h) (i o : ℕ) where
-  pub added_too_many : {n : ℕ} → n ≡ i + o → node_ports < n → Leaves add_numbers (add_block (plan_in b s w h) i o) b s w h (Err TooManyPorts)
-  added_too_many e k = leaves_as (plan_in b s w h) (Err TooManyPorts) (add_too_many (plan_in b s w h) i o (omega arith)) refl refl wf
-
   room_is : {n : ℕ} → n ≡ i + o → no_room h.adds (length (blocks_in b h.blocks)) (blocks_in b h.blocks) (i + o) ≡ no_room h.adds h.blocks (blocks_in b h.blocks) n
   room_is e = rw (length_blocks b h.blocks, ← e)
 
@@ -163,9 +160,6 @@ module _ (b s w : List Row) (h : Totals) (wf : SketchWf b s w h) (n : ℕ) where
           ap (plan_in b' s' w') c ∙ (λ k. record { release = h.release; adds = h.adds; blocks = x k; splits = y k; wires = z k })
 
   module _ (i o : ℕ) where
-    pub resized_too_many : {a c : ℕ} → a ≡ i → c ≡ o → node_ports < a + c → Leaves done_numbers (set_counts (plan_in b s w h) n i o) b s w h (Err TooManyPorts)
-    resized_too_many p q e = leaves_as (plan_in b s w h) (Err TooManyPorts) (resize_too_many (plan_in b s w h) n i o (omega arith)) refl refl wf
-
     pub resized_unknown : {a c : ℕ} → a ≡ i → c ≡ o → a + c ≤ node_ports → has_block (blocks_in b h.blocks) n ≡ false → Leaves done_numbers (set_counts (plan_in b s w h) n i o) b s w h (Err UnknownBlock)
     resized_unknown p q e k = leaves_as (plan_in b s w h) (Err UnknownBlock) (resize_unknown (plan_in b s w h) n i o (omega arith) k) refl refl wf
 

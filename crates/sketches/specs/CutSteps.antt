@@ -1,13 +1,13 @@
 -- Cutting, looking up and tidying over the tables.
 use Rattle.std.proofs.Math.Path.{◌≡◌, refl, ap, subst}
 use Rattle.std.proofs.Common.{sym, ◌∙◌, inl, inr, arith}
-use Rattle.std.specs.Prelude.{Bool, not, ℕ, ◌≤◌, ◌<◌, Option, Some, None, Result, Ok, Err}
+use Rattle.std.specs.Prelude.{Bool, not, ℕ, ◌≤◌, ◌<◌, Option, Some, None, option_map, Result, Ok, Err}
 use Rattle.std.proofs.Math.Bool.{true, false, cond}
 use mathlib.Core.List.{List, [], ◌∷◌, map}
 use borrow.Author.Tests.{eq-eqb, ne_eqb}
 use Rattle.port_tables.specs.Lists.{filter, Member}
 use Rattle.port_tables.specs.Places.{Place, Wire, touches, at_spot, at_end, without}
-use Rattle.sketches.specs.Plan.{Plan, with_wires, spot_named, is_there, subports_of, set_subports, offset_read, lacks_offset, Far, nothing, far, far_from, above_wired}
+use Rattle.sketches.specs.Plan.{Plan, with_wires, spot_named, is_there, subports_of, set_subports, offset_read, lacks_offset, Far, nothing, far, far_from, above_wired, end_at_place}
 use Rattle.sketches.specs.PlanCalls.{leaves, bad_offset, port_found, end_found, cut_port, subport_link, is_refused, cut_subport, tidied, tidy_port}
 use Rattle.sketches.specs.PlanNumbers.{done_numbers, cut_numbers, found_numbers}
 use Rattle.sketches.specs.PlanWf.{most_subports}
@@ -41,11 +41,6 @@ answers_as {A} {numbers} e = record { answered = e; numbered = ap numbers e }
 abbrev pub far_of : Option RowEnd → Far
 far_of None = nothing
 far_of (Some x) = far (place_in x)
-
--- its offset fits
-abbrev pub FarFits : Option RowEnd → Type 0
-FarFits None = Unit {0}
-FarFits (Some x) = x.offset < most_subports
 
 module _ (f : EndTest) where
   far_none : (l : List Row) → filter (hits (test.Wire f)) l ≡ [] → far_from (end_hits f) (map wire_of l) ≡ nothing
@@ -117,9 +112,18 @@ far_fits_in g (w ∷ l) h x e = go (g w.out) (g w.into) e (far_fits_in g l (λ v
     go false true p rest = let q : x ≡ w.out = cc in subst (λ (y : Place). y.offset < most_subports) (sym q) (h w (inl refl)).0
     go false false p rest = rest p
 
-pub far_fits : (b s w : List Row) (h : Totals) → SketchWf b s w h → (g : Place → Bool) (x : Option RowEnd) → far_of x ≡ far_from g (wires_in w h.wires) → FarFits x
-far_fits b s w h wf g None e = tt
-far_fits b s w h wf g (Some x) e = far_fits_in g (wires_in w h.wires) wf.plan.offsets (place_in x) e
+pub far_fits : (b s w : List Row) (h : Totals) → SketchWf b s w h → (g : Place → Bool) (o : Option RowEnd) → far_of o ≡ far_from g (wires_in w h.wires) → (x : RowEnd) → o ≡ Some x → x.offset < most_subports
+far_fits b s w h wf g o e x q = far_fits_in g (wires_in w h.wires) wf.plan.offsets (place_in x) (ap far_of (sym q) ∙ e)
+
+-- The far end, as it is answered.
+
+pub port_answered : (o : Option RowEnd) {m : Option SketchPort} → m ≡ option_map (λ (x : RowEnd). x.port) o → ◌≡◌ {A = Result (Option SketchPort) Reason} (Ok m) (port_found (far_of o))
+port_answered None e = ap Ok e
+port_answered (Some x) e = ap Ok e
+
+pub end_answered : (o : Option RowEnd) {m : Option SketchEnd} → m ≡ option_map (λ (x : RowEnd). end_at_place (place_in x)) o → ◌≡◌ {A = Result (Option SketchEnd) Reason} (Ok m) (end_found (far_of o))
+end_answered None e = ap Ok e
+end_answered (Some x) e = ap Ok e
 
 -- What an end is linked with.
 
@@ -143,9 +147,9 @@ module _ (K : Plan) (x : SketchPort) (o : ℕ) {j : Result (Unit {0}) Reason} (e
   pub end_refused : {q : Reason} → j ≡ Err q → Err q ≡ subport_link K x o
   end_refused f = sym (found_as_judged K x o ∙ ap (found_as (far_from (at_end (spot_named x) (offset_read K x o)) K.wires)) (sym e ∙ f))
 
-  pub end_asked : j ≡ Ok tt → (y : Option RowEnd) {p : ℕ} {a : Result (Option SketchEnd) Reason} → p ≡ offset_read K x o → far_of y ≡ far_from (at_end (spot_named x) p) K.wires → a ≡ end_found (far_of y) → a ≡ subport_link K x o
-  end_asked f y {p} {a} u v c =
-      c ∙ ap end_found (v ∙ ap (λ (n : ℕ). far_from (at_end (spot_named x) n) K.wires) u)
+  pub end_asked : j ≡ Ok tt → (y : Option RowEnd) {t : EndTest} {a : Result (Option SketchEnd) Reason} → t ≡ ask.AtEnd x (offset_read K x o) → far_of y ≡ far_from (end_hits t) K.wires → a ≡ end_found (far_of y) → a ≡ subport_link K x o
+  end_asked f y {t} {a} u v c =
+      c ∙ ap end_found (v ∙ ap (λ (z : EndTest). far_from (end_hits z) K.wires) u)
       ∙ sym (found_as_judged K x o ∙ ap (found_as (far_from (at_end (spot_named x) (offset_read K x o)) K.wires)) (sym e ∙ f))
 
 -- Cutting at an end.
@@ -165,11 +169,11 @@ module _ (b s w : List Row) (h : Totals) (wf : SketchWf b s w h) (x : SketchPort
   pub end_cut_refused : {q : Reason} → a ≡ Err q → Leaves found_numbers (cut_subport (plan_in b s w h) x o) b s w h (Err q)
   end_cut_refused {q} f = leaves_as (plan_in b s w h) a (cut_as ∙ ap (λ (y : Result (Option SketchEnd) Reason). leaves (cond (is_refused y) (plan_in b s w h) cut_plan) a) f) refl (sym f) wf
 
-  pub end_cut : {y : Option SketchEnd} → a ≡ Ok y → {p : ℕ} → p ≡ offset_read (plan_in b s w h) x o → (w' : List Row) (n : ℕ) → (rows_in w' n ≡ filter (missed (test.Wire (ask.AtEnd x p))) (rows_in w h.wires)) × Table w' →
+  pub end_cut : {y : Option SketchEnd} → a ≡ Ok y → {t : EndTest} → t ≡ ask.AtEnd x (offset_read (plan_in b s w h) x o) → (w' : List Row) (n : ℕ) → (rows_in w' n ≡ filter (missed (test.Wire t)) (rows_in w h.wires)) × Table w' →
       {h' : Totals} → h' ≡ held_wires h n → Leaves found_numbers (cut_subport (plan_in b s w h) x o) b s w' h' (Ok y)
-  end_cut {y} f {p} u w' n d {h'} c =
+  end_cut {y} f {t} u w' n d {h'} c =
       let k : plan_in b s w' h' ≡ cut_plan =
-      ap (plan_in b s w') c ∙ ap (with_wires (plan_in b s w h)) (ap (map wire_of) d.0 ∙ wires_left (ask.AtEnd x p) (rows_in w h.wires) ∙ ap (λ (m : ℕ). without (at_end (spot_named x) m) (wires_in w h.wires)) u) in
+      ap (plan_in b s w') c ∙ ap (with_wires (plan_in b s w h)) (ap (map wire_of) d.0 ∙ wires_left t (rows_in w h.wires) ∙ ap (λ (z : EndTest). without (end_hits z) (wires_in w h.wires)) u) in
       leaves_as cut_plan a (cut_as ∙ ap (λ (t : Bool). leaves (cond t (plan_in b s w h) cut_plan) a) (ap is_refused f ∙ not_refused y)) k (sym f)
       (tables_wf wf.block_table wf.split_table d.1 k (cut_wf (plan_in b s w h) (at_end (spot_named x) (offset_read (plan_in b s w h) x o)) wf.plan))
 

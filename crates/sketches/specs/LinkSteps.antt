@@ -1,17 +1,15 @@
 -- Linking two ports over the tables.
-use Rattle.std.specs.Prelude.{◌≡◌, refl, Bool, true, false, cond, List, ◌∷◌, map, ℕ, ◌<◌, length, Result, Ok, Err}
+use Rattle.std.specs.Prelude.{◌≡◌, refl, Bool, true, false, cond, not, List, ◌∷◌, map, ℕ, ◌<◌, length, Result, Ok, Err}
 use Rattle.std.proofs.Common.{sym, ap, ◌∙◌, subst, arith}
 use borrow.Author.Tests.{leb-false}
 use Rattle.port_tables.specs.Entries.{same_side}
-use Rattle.port_tables.specs.declared.direction.Direction.{Direction}
-use Rattle.port_tables.specs.declared.direction.Direction.TheVariants.{Incoming, Outgoing}
-use Rattle.port_tables.specs.Places.{Wire, at_spot, wire_of_sides, any_touches}
+use Rattle.port_tables.specs.Places.{Wire, wire_of_sides}
 use Rattle.port_tables.specs.declared.release.Release.{Release}
 use Rattle.port_tables.specs.declared.release.Release.TheVariants as release
-use Rattle.sketches.specs.Plan.{Plan, with_wires, spot_named, is_there, wired_side, taken_under, input_taken, place_named, end#, offset_ready, ready}
+use Rattle.sketches.specs.Plan.{Plan, with_wires, is_there, wired_side, taken_under, input_taken, place_named, end#, offset_ready, ready}
 use Rattle.sketches.specs.PlanCalls.{most_wires, Sketched, leaves, is_full, with_wire, both_linked, link_ports, link_clean}
 use Rattle.sketches.specs.PlanNumbers.{link_numbers}
-use Rattle.sketches.specs.CallsWf.{ready_wires, ready_there, linked_wf, offset_within}
+use Rattle.sketches.specs.CallsWf.{ready_wires, ready_there, linked_wf}
 use Rattle.sketches.specs.Rows.{rows_in, row_slots, Table, wires_in, wire_of}
 use Rattle.sketches.specs.Offsets.{length_wires}
 use Rattle.sketches.specs.BlockSteps.{leaves_as, tables_wf}
@@ -24,15 +22,6 @@ use Rattle.sketches.specs.declared.sketch.Reason.TheVariants.{UnknownPort, NoRoo
 use Rattle.sketches.specs.declared.sketch.SketchEnd.{SketchEnd}
 
 -- Inputs with a wire.
-
-pub wired_out : (K : Plan) (x : SketchPort) {d : Direction} → d ≡ Outgoing → false ≡ wired_side K x d
-wired_out K x e = ap (wired_side K x) (sym e)
-
-pub wired_gone : (K : Plan) (x : SketchPort) {d : Direction} → d ≡ Incoming → is_there K x ≡ false → false ≡ wired_side K x d
-wired_gone K x e h = (rw h) ∙ ap (wired_side K x) (sym e)
-
-pub wired_in : (K : Plan) (x : SketchPort) {d : Direction} → d ≡ Incoming → is_there K x ≡ true → any_touches (at_spot (spot_named x)) K.wires ≡ wired_side K x d
-wired_in K x e h = (rw h) ∙ ap (wired_side K x) (sym e)
 
 pub taken_one : (K : Plan) (x y : SketchPort) → K.release ≡ release.One → false ≡ input_taken K x y
 unfolding input_taken
@@ -70,9 +59,6 @@ pub record Linkable (b s w : List Row) (h : Totals) (x y : SketchPort) : Type 0 
   pub room : h.wires < row_slots
 
 module _ (b s w : List Row) (h : Totals) (x y : SketchPort) (l : Linkable b s w h x y) where
-  pub offset_fits : (z : SketchPort) {o : ℕ} → o ≡ offset_ready (plan_in b s w h) z → o < row_slots
-  offset_fits z e = let k = offset_within (plan_in b s w h) z in let n = length_wires w h.wires in let m = l.room in omega arith
-
   module _ {b₁ s₁ w₁ : List Row} {h₁ : Totals} (p : IsPlan (ready (plan_in b s w h) x) b₁ s₁ w₁ h₁) where
     pub second_there : SketchWf b₁ s₁ w₁ h₁ × (is_there (plan_in b₁ s₁ w₁ h₁) y ≡ true)
     second_there = both_there b s w h x y p l.second
@@ -89,103 +75,148 @@ module _ (b s w : List Row) (h : Totals) (x y : SketchPort) (l : Linkable b s w 
           let m = l.room in
           omega arith
 
-      pub both_linked_lem : {o r : ℕ} → o ≡ offset_ready (plan_in b s w h) x → r ≡ offset_ready (plan_in b s w h) y → {row : Row} → wire_of row ≡ wire_of_sides x.side (place_named x o) (place_named y r) →
+      pub both_linked_lem : {u v : SketchEnd} → u ≡ end# x (offset_ready (plan_in b s w h) x) → v ≡ end# y (offset_ready (plan_in b₁ s₁ w₁ h₁) y) → {row : Row} → wire_of row ≡ wire_of_sides u.port.side (place_named u.port u.offset) (place_named v.port v.offset) →
           {w₃ : List Row} {n : ℕ} → (rows_in w₃ n ≡ row ∷ rows_in w₂ h₂.wires) × Table w₃ →
-          Leaves link_numbers (both_linked (plan_in b s w h) x y) b₂ s₂ w₃ (held_wires h₂ n) (Ok (end# x o, end# y r))
-      both_linked_lem {o} {r} f g {row} c {w₃} {n} u =
-          let t = wire_laid x y o r b₂ s₂ w₂ w₃ h₂ n both c u.0 in
+          Leaves link_numbers (both_linked (plan_in b s w h) x y) b₂ s₂ w₃ (held_wires h₂ n) (Ok (u, v))
+      unfolding ready
+      both_linked_lem {u} {v} f g {row} c {w₃} {n} r =
+          let k : v ≡ end# y (offset_ready (plan_in b s w h) y) = g ∙ ap (λ (l : List Wire). end# y (offset_ready (with_wires (plan_in b s w h) l) y)) (ap (λ (k : Plan). k.wires) p.plan ∙ ready_wires (plan_in b s w h) x) in
+          let d : wire_of row ≡ wire_of_sides x.side (place_named x (offset_ready (plan_in b s w h) x)) (place_named y (offset_ready (plan_in b s w h) y)) =
+          c ∙ ap (λ (z : SketchEnd). wire_of_sides z.port.side (place_named z.port z.offset) (place_named v.port v.offset)) f ∙ ap (λ (z : SketchEnd). wire_of_sides x.side (place_named x (offset_ready (plan_in b s w h) x)) (place_named z.port z.offset)) k in
+          let e : plan_in b₂ s₂ w₃ (held_wires h₂ n) ≡ (both_linked (plan_in b s w h) x y).plan = wire_laid x y (offset_ready (plan_in b s w h) x) (offset_ready (plan_in b s w h) y) b₂ s₂ w₂ w₃ h₂ n both d r.0 in
           let a = length_wires w h.wires in
           let m = l.room in
-          let e : plan_in b₂ s₂ w₃ (held_wires h₂ n) ≡ (both_linked (plan_in b s w h) x y).plan = t ∙ ap (λ (k : ℕ). with_wire (ready (ready (plan_in b s w h) x) y) x k y r) f ∙ ap (λ (k : ℕ). with_wire (ready (ready (plan_in b s w h) x) y) x (offset_ready (plan_in b s w h) x) y k) g in
           leaves_as (both_linked (plan_in b s w h) x y).plan (both_linked (plan_in b s w h) x y).answer refl e
-          (ap (λ (k : ℕ). (Ok (end# x k, end# y r))) f ∙ ap (λ (k : ℕ). (Ok (end# x (offset_ready (plan_in b s w h) x), end# y k))) g)
-          (tables_wf q.wf.block_table q.wf.split_table u.1 e (linked_wf (plan_in b s w h) x y l.wf.plan l.first l.second (omega arith)))
+          (ap (λ (z : SketchEnd). (Ok (z, v))) f ∙ ap (λ (z : SketchEnd). (Ok (end# x (offset_ready (plan_in b s w h) x), z))) k)
+          (tables_wf q.wf.block_table q.wf.split_table r.1 e (linked_wf (plan_in b s w h) x y l.wf.plan l.first l.second (omega arith)))
 
--- The calls, by what they are refused with.
+  pub ends_apart : {u v : SketchEnd} {o r : ℕ} → u ≡ end# x o → v ≡ end# y r → same_side u.port.side v.port.side ≡ false
+  ends_apart f g = rw (f, g) l.sides
+
+-- The calls, as they are judged.
+
+-- 7, 18, 11, 12, 10
+abbrev pub judge_by : Bool → Bool → Bool → Bool → Bool → Result (Unit {0}) Reason
+judge_by there taken second sides full =
+    cond (not there) (Err UnknownPort)
+    (cond taken (Err InputWired)
+    (cond (not second) (Err UnknownSecondPort)
+    (cond sides (Err SameSide)
+    (cond full (Err NoRoom)
+    (Ok tt)))))
+
+unfoldable pub judge_ports : Plan → SketchPort → SketchPort → Result (Unit {0}) Reason
+judge_ports K x y = judge_by (is_there K x) (input_taken K x y) (is_there K y) (same_side x.side y.side) (is_full K)
+
+abbrev pub link_as : Plan → SketchPort → SketchPort → Result (Unit {0}) Reason → Sketched (Result (SketchEnd × SketchEnd) Reason)
+link_as K x y (Ok u) = both_linked K x y
+link_as K x y (Err UnknownSecondPort) = leaves (ready K x) (Err UnknownSecondPort)
+link_as K x y (Err SameSide) = leaves (ready (ready K x) y) (Err SameSide)
+link_as K x y (Err q) = leaves K (Err q)
+
+abbrev pub clean_as : Plan → SketchPort → SketchPort → Result (Unit {0}) Reason → Sketched (Result (SketchEnd × SketchEnd) Reason)
+clean_as K x y (Ok u) = both_linked K x y
+clean_as K x y (Err q) = leaves K (Err q)
 
 module _ (K : Plan) (x y : SketchPort) where
-  link_unknown : is_there K x ≡ false → link_ports K x y ≡ leaves K (Err UnknownPort)
-  unfolding link_ports
-  link_unknown e = rw e
+  link_as_judged : link_ports K x y ≡ link_as K x y (judge_ports K x y)
+  unfolding link_ports judge_ports
+  link_as_judged = go (is_there K x) (input_taken K x y) (is_there K y) (same_side x.side y.side) (is_full K)
+    where
+      go : (a b c d e : Bool) →
+          cond (not a) (leaves K (Err UnknownPort))
+          (cond b (leaves K (Err InputWired))
+          (cond (not c) (leaves (ready K x) (Err UnknownSecondPort))
+          (cond d (leaves (ready (ready K x) y) (Err SameSide))
+          (cond e (leaves K (Err NoRoom))
+          (both_linked K x y)))))
+          ≡ link_as K x y (judge_by a b c d e)
+      go false b c d e = refl
+      go true true c d e = refl
+      go true false false d e = refl
+      go true false true true e = refl
+      go true false true false true = refl
+      go true false true false false = refl
 
-  link_taken : is_there K x ≡ true → input_taken K x y ≡ true → link_ports K x y ≡ leaves K (Err InputWired)
-  unfolding link_ports
-  link_taken e f = rw (e, f)
+  clean_as_judged : link_clean K x y ≡ clean_as K x y (judge_ports K x y)
+  unfolding link_clean judge_ports
+  clean_as_judged = go (is_there K x) (input_taken K x y) (is_there K y) (same_side x.side y.side) (is_full K)
+    where
+      go : (a b c d e : Bool) →
+          cond (not a) (leaves K (Err UnknownPort))
+          (cond b (leaves K (Err InputWired))
+          (cond (not c) (leaves K (Err UnknownSecondPort))
+          (cond d (leaves K (Err SameSide))
+          (cond e (leaves K (Err NoRoom))
+          (both_linked K x y)))))
+          ≡ clean_as K x y (judge_by a b c d e)
+      go false b c d e = refl
+      go true true c d e = refl
+      go true false false d e = refl
+      go true false true true e = refl
+      go true false true false true = refl
+      go true false true false false = refl
 
-  link_second : is_there K x ≡ true → input_taken K x y ≡ false → is_there K y ≡ false → link_ports K x y ≡ leaves (ready K x) (Err UnknownSecondPort)
-  unfolding link_ports
-  link_second e f g = rw (e, f, g)
+-- what is known of ports that are judged so
+abbrev pub Known : Plan → SketchPort → SketchPort → Result (Unit {0}) Reason → Type 0
+Known K x y (Ok u) = (is_there K x ≡ true) × ((is_there K y ≡ true) × ((same_side x.side y.side ≡ false) × (is_full K ≡ false)))
+Known K x y (Err UnknownSecondPort) = is_there K x ≡ true
+Known K x y (Err SameSide) = (is_there K x ≡ true) × (is_there K y ≡ true)
+Known K x y (Err q) = Unit {0}
 
-  link_sides : is_there K x ≡ true → input_taken K x y ≡ false → is_there K y ≡ true → same_side x.side y.side ≡ true → link_ports K x y ≡ leaves (ready (ready K x) y) (Err SameSide)
-  unfolding link_ports
-  link_sides e f g d = rw (e, f, g, d)
-
-  link_full : is_there K x ≡ true → input_taken K x y ≡ false → is_there K y ≡ true → same_side x.side y.side ≡ false → is_full K ≡ true → link_ports K x y ≡ leaves K (Err NoRoom)
-  unfolding link_ports
-  link_full e f g d l = rw (e, f, g, d, l)
-
-  link_made : is_there K x ≡ true → input_taken K x y ≡ false → is_there K y ≡ true → same_side x.side y.side ≡ false → is_full K ≡ false → link_ports K x y ≡ both_linked K x y
-  unfolding link_ports
-  link_made e f g d l = rw (e, f, g, d, l)
-
-  pub clean_unknown : is_there K x ≡ false → link_clean K x y ≡ leaves K (Err UnknownPort)
-  unfolding link_clean
-  clean_unknown e = rw e
-
-  pub clean_taken : is_there K x ≡ true → input_taken K x y ≡ true → link_clean K x y ≡ leaves K (Err InputWired)
-  unfolding link_clean
-  clean_taken e f = rw (e, f)
-
-  pub clean_second : is_there K x ≡ true → input_taken K x y ≡ false → is_there K y ≡ false → link_clean K x y ≡ leaves K (Err UnknownSecondPort)
-  unfolding link_clean
-  clean_second e f g = rw (e, f, g)
-
-  pub clean_sides : is_there K x ≡ true → input_taken K x y ≡ false → is_there K y ≡ true → same_side x.side y.side ≡ true → link_clean K x y ≡ leaves K (Err SameSide)
-  unfolding link_clean
-  clean_sides e f g d = rw (e, f, g, d)
-
-  pub clean_full : is_there K x ≡ true → input_taken K x y ≡ false → is_there K y ≡ true → same_side x.side y.side ≡ false → is_full K ≡ true → link_clean K x y ≡ leaves K (Err NoRoom)
-  unfolding link_clean
-  clean_full e f g d l = rw (e, f, g, d, l)
-
-  clean_made : is_there K x ≡ true → input_taken K x y ≡ false → is_there K y ≡ true → same_side x.side y.side ≡ false → is_full K ≡ false → link_clean K x y ≡ both_linked K x y
-  unfolding link_clean
-  clean_made e f g d l = rw (e, f, g, d, l)
-
--- Linking over the tables.
+known_judged : (K : Plan) (x y : SketchPort) → Known K x y (judge_ports K x y)
+unfolding judge_ports
+known_judged K x y = go (is_there K x) refl (input_taken K x y) (is_there K y) refl (same_side x.side y.side) refl (is_full K) refl
+  where
+    go : (a : Bool) → is_there K x ≡ a → (b c : Bool) → is_there K y ≡ c → (d : Bool) → same_side x.side y.side ≡ d → (e : Bool) → is_full K ≡ e → Known K x y (judge_by a b c d e)
+    go false p b c q d r e t = tt
+    go true p true c q d r e t = tt
+    go true p false false q d r e t = p
+    go true p false true q true r e t = (p, q)
+    go true p false true q false r true t = tt
+    go true p false true q false r false t = (p, (q, (r, t)))
 
 module _ (b s w : List Row) (h : Totals) (wf : SketchWf b s w h) (x y : SketchPort) where
   abbrev K : Plan
   K = plan_in b s w h
 
-  pub linked_unknown : is_there K x ≡ false → Leaves link_numbers (link_ports K x y) b s w h (Err UnknownPort)
-  linked_unknown e = leaves_as K (Err UnknownPort) (link_unknown K x y e) refl refl wf
+  pub clean_refused : {r : Reason} → Err r ≡ judge_ports K x y → Leaves link_numbers (link_clean K x y) b s w h (Err r)
+  clean_refused {r} e = leaves_as K (Err r) (clean_as_judged K x y ∙ ap (clean_as K x y) (sym e)) refl refl wf
 
-  pub linked_taken : is_there K x ≡ true → input_taken K x y ≡ true → Leaves link_numbers (link_ports K x y) b s w h (Err InputWired)
-  linked_taken e f = leaves_as K (Err InputWired) (link_taken K x y e f) refl refl wf
+module _ (b s w : List Row) (h : Totals) (wf : SketchWf b s w h) (x y : SketchPort) {j : Result (Unit {0}) Reason} (e : j ≡ judge_ports (plan_in b s w h) x y) where
+  known : {i : Result (Unit {0}) Reason} → j ≡ i → Known (plan_in b s w h) x y i
+  known f = subst (Known (plan_in b s w h) x y) (sym e ∙ f) (known_judged (plan_in b s w h) x y)
 
-  pub linked_second : is_there K x ≡ true → input_taken K x y ≡ false → is_there K y ≡ false → {b' s' w' : List Row} {h' : Totals} → IsPlan (ready K x) b' s' w' h' →
-      Leaves link_numbers (link_ports K x y) b' s' w' h' (Err UnknownSecondPort)
-  linked_second e f g q = leaves_as (ready K x) (Err UnknownSecondPort) (link_second K x y e f g) q.plan refl q.wf
+  pub judged_linkable : j ≡ Ok tt → Linkable b s w h x y
+  judged_linkable f =
+      let k = known f in
+      let n = length_wires w h.wires in
+      let l = leb-false most_wires (length (plan_in b s w h).wires) k.1.1.1 in
+      record { wf = wf; first = k.0; second = k.1.0; sides = k.1.1.0; room = omega arith }
 
-  pub linked_sides : is_there K x ≡ true → input_taken K x y ≡ false → is_there K y ≡ true → same_side x.side y.side ≡ true →
-      {b₁ s₁ w₁ : List Row} {h₁ : Totals} → IsPlan (ready K x) b₁ s₁ w₁ h₁ → {b' s' w' : List Row} {h' : Totals} → IsPlan (ready (plan_in b₁ s₁ w₁ h₁) y) b' s' w' h' →
-      Leaves link_numbers (link_ports K x y) b' s' w' h' (Err SameSide)
-  linked_sides e f g d q r = leaves_as (ready (ready K x) y) (Err SameSide) (link_sides K x y e f g d) (r.plan ∙ ap (λ (k : Plan). ready k y) q.plan) refl r.wf
+  pub judged_second : j ≡ Err UnknownSecondPort → is_there (plan_in b s w h) x ≡ true
+  judged_second f = known f
 
-  pub linked_full : is_there K x ≡ true → input_taken K x y ≡ false → is_there K y ≡ true → same_side x.side y.side ≡ false → is_full K ≡ true → Leaves link_numbers (link_ports K x y) b s w h (Err NoRoom)
-  linked_full e f g d l = leaves_as K (Err NoRoom) (link_full K x y e f g d l) refl refl wf
+  pub judged_sides : j ≡ Err SameSide → (is_there (plan_in b s w h) x ≡ true) × (is_there (plan_in b s w h) y ≡ true)
+  judged_sides f = known f
 
-  pub linkable : is_there K x ≡ true → is_there K y ≡ true → same_side x.side y.side ≡ false → is_full K ≡ false → Linkable b s w h x y
-  linkable e g d l = let n = length_wires w h.wires in let k = leb-false most_wires (length K.wires) l in record { wf = wf; first = e; second = g; sides = d; room = omega arith }
+  pub link_second : j ≡ Err UnknownSecondPort → {b' s' w' : List Row} {h' : Totals} → IsPlan (ready (plan_in b s w h) x) b' s' w' h' → Leaves link_numbers (link_ports (plan_in b s w h) x y) b' s' w' h' (Err UnknownSecondPort)
+  link_second f q = leaves_as (ready (plan_in b s w h) x) (Err UnknownSecondPort) (link_as_judged (plan_in b s w h) x y ∙ ap (link_as (plan_in b s w h) x y) (sym e ∙ f)) q.plan refl q.wf
 
-  pub linked_made : {b' s' w' : List Row} {h' : Totals} {a : Result (SketchEnd × SketchEnd) Reason} → is_there K x ≡ true → input_taken K x y ≡ false → is_there K y ≡ true → same_side x.side y.side ≡ false → is_full K ≡ false →
-      Leaves link_numbers (both_linked K x y) b' s' w' h' a → Leaves link_numbers (link_ports K x y) b' s' w' h' a
-  linked_made {b'} {s'} {w'} {h'} {a} e f g d l p = subst (λ (c : Sketched (Result (SketchEnd × SketchEnd) Reason)). Leaves link_numbers c b' s' w' h' a) (sym (link_made K x y e f g d l)) p
+  pub link_sides : j ≡ Err SameSide → {b₁ s₁ w₁ : List Row} {h₁ : Totals} → IsPlan (ready (plan_in b s w h) x) b₁ s₁ w₁ h₁ → {b' s' w' : List Row} {h' : Totals} → IsPlan (ready (plan_in b₁ s₁ w₁ h₁) y) b' s' w' h' →
+      Leaves link_numbers (link_ports (plan_in b s w h) x y) b' s' w' h' (Err SameSide)
+  link_sides f q r = leaves_as (ready (ready (plan_in b s w h) x) y) (Err SameSide) (link_as_judged (plan_in b s w h) x y ∙ ap (link_as (plan_in b s w h) x y) (sym e ∙ f)) (r.plan ∙ ap (λ (k : Plan). ready k y) q.plan) refl r.wf
 
-  pub clean_refused : (r : Reason) → link_clean K x y ≡ leaves K (Err r) → Leaves link_numbers (link_clean K x y) b s w h (Err r)
-  clean_refused r e = leaves_as K (Err r) e refl refl wf
+  pub link_refused : {r : Reason} → j ≡ Err r → (r ≡ UnknownSecondPort → ⊥) → (r ≡ SameSide → ⊥) → Leaves link_numbers (link_ports (plan_in b s w h) x y) b s w h (Err r)
+  link_refused {r} f m n = leaves_as (plan_in b s w h) (Err r) (link_as_judged (plan_in b s w h) x y ∙ ap (link_as (plan_in b s w h) x y) (sym e ∙ f) ∙ keeps_none r m n) refl refl wf
+    where
+      keeps_none : (q : Reason) → (q ≡ UnknownSecondPort → ⊥) → (q ≡ SameSide → ⊥) → link_as (plan_in b s w h) x y (Err q) ≡ leaves (plan_in b s w h) (Err q)
+      keeps_none UnknownSecondPort m n = absurd (m refl)
+      keeps_none SameSide m n = absurd (n refl)
+      keeps_none q m n = refl
 
-  pub clean_linked : {b' s' w' : List Row} {h' : Totals} {a : Result (SketchEnd × SketchEnd) Reason} → is_there K x ≡ true → input_taken K x y ≡ false → is_there K y ≡ true → same_side x.side y.side ≡ false → is_full K ≡ false →
-      Leaves link_numbers (both_linked K x y) b' s' w' h' a → Leaves link_numbers (link_clean K x y) b' s' w' h' a
-  clean_linked {b'} {s'} {w'} {h'} {a} e f g d l p = subst (λ (c : Sketched (Result (SketchEnd × SketchEnd) Reason)). Leaves link_numbers c b' s' w' h' a) (sym (clean_made K x y e f g d l)) p
+  pub link_made : j ≡ Ok tt → {b' s' w' : List Row} {h' : Totals} {a : Result (SketchEnd × SketchEnd) Reason} → Leaves link_numbers (both_linked (plan_in b s w h) x y) b' s' w' h' a → Leaves link_numbers (link_ports (plan_in b s w h) x y) b' s' w' h' a
+  link_made f {b'} {s'} {w'} {h'} {a} p = subst (λ (c : Sketched (Result (SketchEnd × SketchEnd) Reason)). Leaves link_numbers c b' s' w' h' a) (sym (link_as_judged (plan_in b s w h) x y ∙ ap (link_as (plan_in b s w h) x y) (sym e ∙ f))) p
+
+  pub clean_made : j ≡ Ok tt → {b' s' w' : List Row} {h' : Totals} {a : Result (SketchEnd × SketchEnd) Reason} → Leaves link_numbers (both_linked (plan_in b s w h) x y) b' s' w' h' a → Leaves link_numbers (link_clean (plan_in b s w h) x y) b' s' w' h' a
+  clean_made f {b'} {s'} {w'} {h'} {a} p = subst (λ (c : Sketched (Result (SketchEnd × SketchEnd) Reason)). Leaves link_numbers c b' s' w' h' a) (sym (clean_as_judged (plan_in b s w h) x y ∙ ap (clean_as (plan_in b s w h) x y) (sym e ∙ f))) p

@@ -1,7 +1,12 @@
 -- The offsets of a port that are wired, as marks: the lowest unwired offset is the lowest without a mark.
-use Rattle.std.specs.Prelude.{◌≡◌, refl, Bool, true, false, cond, ◌||◌, List, [], ◌∷◌, eqb, ltb, length, get_or, set, replicate}
-use Rattle.std.proofs.Common.{sym, ap, ◌∙◌, subst, add-one, length-set, get_or-set_same, get_or-set_other, eqb-true, ltb-false}
-use Prim.Native.Nat.{ℕ, zero, suc, ◌+◌, ◌-◌, ◌≤◌, ◌<◌}
+use Rattle.std.specs.Prelude.{◌≡◌, refl, Bool, true, false, cond, not, ◌||◌, List, [], ◌∷◌, eqb, ltb, length, get_or, set, replicate, Some, None}
+use Rattle.std.proofs.Common.{sym, ap, ◌∙◌, subst, add-one, length-set, get_or-set_same, get_or-set_other, eqb-true, ltb-false, length-take-le}
+use Rattle.std.specs.List.{position, position_or_len}
+use Rattle.std.specs.Option.{unwrap_or}
+use Rattle.std.proofs.lemmas.List.Sums.{prefix_len-le-length}
+use Rattle.std.proofs.Math.Seq.{drop-cons}
+use Rattle.std.proofs.Math.ListN.{take, drop}
+use Prim.Native.Nat.{ℕ, zero, suc, ◌+◌, ◌≤◌, ◌<◌}
 use native.Mathlib.Omega.{arith}
 use Rattle.std.proofs.lemmas.List.{length-replicate, get_or-replicate}
 use Rattle.std.proofs.lemmas.Bool.{eqb-false}
@@ -23,11 +28,6 @@ marked s x m = cond (at_spot s x) (mark m x.offset) m
 pub record Marks (s : Spot) (l : List Wire) (m : List Bool) : Type 0 where
   pub long : length m ≡ row_slots
   pub right : (o : ℕ) → o < row_slots → get_or m o false ≡ any_touches (at_end s o) l
-
--- the lowest offset from o on without a mark, looking at most so far
-unfoldable pub lowest_unmarked : List Bool → ℕ → ℕ → ℕ
-lowest_unmarked m o zero = o
-lowest_unmarked m o (suc n) = cond (get_or m o false) (lowest_unmarked m (suc o) n) o
 
 pub no_marks : (s : Spot) → Marks s [] (replicate row_slots false)
 unfolding any_touches
@@ -83,35 +83,36 @@ marks_more s l w m k =
           ∙ or_swap (at_end s o w.out) (at_end s o w.into) (any_touches (at_end s o) l);
     }
 
-pub lowest_marked : (s : Spot) (l : List Wire) (m : List Bool) (o n : ℕ) → o + n ≤ row_slots → Marks s l m → lowest_unmarked m o n ≡ lowest_unwired l s o n
-unfolding lowest_unmarked lowest_unwired
-lowest_marked s l m o zero h k = refl
-lowest_marked s l m o (suc n) h k = rw (k.right o (omega arith), lowest_marked s l m (suc o) n (omega arith) k)
+-- what is sought from an offset on, among so many
+lowest_marked_in : (s : Spot) (l : List Wire) (m : List Bool) (o n : ℕ) → o + n ≤ row_slots → Marks s l m → o + position_or_len not (take n (drop o m)) ≡ lowest_unwired l s o n
+unfolding lowest_unwired
+lowest_marked_in s l m o zero h k = omega arith
+lowest_marked_in s l m o (suc n) h k =
+    let long = k.long in
+    let within : o < length m = omega arith in
+    rw (drop-cons m o false) (go (get_or m o false) (any_touches (at_end s o) l) (k.right o (omega arith)) (lowest_marked_in s l m (suc o) n (omega arith) k))
+  where
+    go : (a b : Bool) → a ≡ b → suc o + position_or_len not (take n (drop (suc o) m)) ≡ lowest_unwired l s (suc o) n → o + position_or_len not (a ∷ take n (drop (suc o) m)) ≡ cond b (lowest_unwired l s (suc o) n) o
+    go true true p e = omega arith
+    go false false p e = omega arith
+    go true false p e = absurd (let z : ◌≡◌ {A = ℕ} 0 1 = cc in omega arith)
+    go false true p e = absurd (let z : ◌≡◌ {A = ℕ} 0 1 = cc in omega arith)
 
--- The loop over the marks.
+pub lowest_marked : (s : Spot) (l : List Wire) (m : List Bool) (n : ℕ) → n ≤ row_slots → Marks s l m → unwrap_or (position not (take n m)) n ≡ lowest_unwired l s 0 n
+lowest_marked s l m n h k = go (ltb (position_or_len not (take n m)) (length (take n m))) refl
+  where
+    left : position_or_len not (take n m) ≡ lowest_unwired l s 0 n
+    left = let e = lowest_marked_in s l m 0 n (omega arith) k in omega arith
 
-module _ (m : List Bool) where
-  lowest_found_in : (o n : ℕ) → 0 < n → get_or m o false ≡ false → o ≡ lowest_unmarked m o n
-  unfolding lowest_unmarked
-  lowest_found_in o zero h e = absurd (omega arith)
-  lowest_found_in o (suc n) h e = rw e
-
-  pub lowest_found : (o count : ℕ) → o < count → get_or m o false ≡ false → o ≡ lowest_unmarked m o (count - o)
-  lowest_found o count h e = lowest_found_in o (count - o) (omega arith) e
-
-  lowest_passed_in : (o n : ℕ) → 0 < n → get_or m o false ≡ true → lowest_unmarked m (suc o) (n - 1) ≡ lowest_unmarked m o n
-  unfolding lowest_unmarked
-  lowest_passed_in o zero h e = absurd (omega arith)
-  lowest_passed_in o (suc n) h e = let p : suc n - 1 ≡ n = omega arith in rw (p, e)
-
-  pub lowest_passed : (o count : ℕ) → o < count → get_or m o false ≡ true → lowest_unmarked m (o + 1) (count - (o + 1)) ≡ lowest_unmarked m o (count - o)
-  lowest_passed o count h e =
-      let p : count - (o + 1) ≡ (count - o) - 1 = omega arith in
-      rw (p, add-one o) (lowest_passed_in o (count - o) (omega arith) e)
-
-  pub lowest_ends : (o count : ℕ) → count ≤ o → o ≡ lowest_unmarked m o (count - o)
-  unfolding lowest_unmarked
-  lowest_ends o count h = let p : count - o ≡ 0 = omega arith in rw p
+    go : (b : Bool) → ltb (position_or_len not (take n m)) (length (take n m)) ≡ b → unwrap_or (cond b (Some (position_or_len not (take n m))) None) n ≡ lowest_unwired l s 0 n
+    go true p = left
+    go false p =
+        let long = k.long in
+        let all = length-take-le n m (omega arith) in
+        let most = prefix_len-le-length (λ (x : Bool). not (not x)) (take n m) in
+        let past = ltb-false (position_or_len not (take n m)) (length (take n m)) p in
+        let e = left in
+        omega arith
 
 -- One more row.
 

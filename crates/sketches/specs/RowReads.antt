@@ -1,18 +1,44 @@
 -- What is found among the rows of a table is what the definitions read off the lists.
-use Rattle.std.specs.Prelude.{◌≡◌, refl, Bool, true, false, cond, not, List, [], ◌∷◌, map, ℕ, eqb, Some, None}
-use Rattle.std.proofs.Common.{ap, ◌∙◌, arith}
+use Rattle.std.specs.Prelude.{◌≡◌, refl, Bool, true, false, cond, not, List, [], ◌∷◌, map, ℕ, eqb}
+use Rattle.std.proofs.Common.{sym, ap}
+use Rattle.std.specs.Option.{option_map_or}
 use Rattle.port_tables.specs.Lists.{filter}
-use Rattle.port_tables.specs.Entries.{new_count}
+use denote.Enum.Bare.{sameb}
+use mathlib.Core.Bool.{◌&&◌}
+use Rattle.port_tables.specs.Entries.{same_side, new_count}
+use Rattle.port_tables.specs.SameSides.{sides_compared}
+use Rattle.port_tables.specs.contracts.direction.Direction.{the_type}
 use Rattle.port_tables.specs.declared.direction.Direction.{Direction}
 use Rattle.port_tables.specs.declared.direction.Direction.TheVariants.{Incoming, Outgoing}
-use Rattle.port_tables.specs.Places.{at_spot, touches, any_touches, without}
+use Rattle.port_tables.specs.Places.{at_spot, at_end, touches, any_touches, without}
 use Rattle.sketches.specs.Plan.{PlanBlock, has_block, ports_on_side, spot_named, subports_among}
-use Rattle.sketches.specs.Rows.{block_of, split_of, wire_of, end_hits, hits, missed, no_row, first, newest_of, is_there_any}
+use Rattle.sketches.specs.Rows.{block_of, split_of, wire_of, place_in, end_hits, hits, missed, no_row, first, newest_of, is_there_any}
 use Rattle.sketches.specs.declared.rows.Row.{Row}
 use Rattle.sketches.specs.declared.sketch.SketchPort.{SketchPort}
+use Rattle.sketches.specs.declared.tests.RowEnd.{RowEnd}
 use Rattle.sketches.specs.declared.tests.EndTest.{EndTest}
 use Rattle.sketches.specs.declared.tests.EndTest.TheVariants as ask
 use Rattle.sketches.specs.declared.tests.Test.TheVariants as test
+
+-- Tests of ports and ends, as they are derived.
+
+module _ (p : SketchPort) (x : RowEnd) where
+  pub port_tested : (eqb x.port.block p.block && (sameb the_type x.port.side p.side && eqb x.port.position p.position)) ≡ at_spot (spot_named p) (place_in x)
+  unfolding at_spot
+  port_tested = rw (sides_compared x.port.side p.side refl) (go (eqb x.port.block p.block) (same_side x.port.side p.side))
+    where
+      go : (a b : Bool) → (a && (b && eqb x.port.position p.position)) ≡ cond a (cond b (eqb x.port.position p.position) false) false
+      go true true = refl
+      go true false = refl
+      go false b = refl
+
+  pub end_tested : (o : ℕ) → ((eqb x.port.block p.block && (sameb the_type x.port.side p.side && eqb x.port.position p.position)) && eqb x.offset o) ≡ at_end (spot_named p) o (place_in x)
+  unfolding at_end
+  end_tested o = rw port_tested (go (at_spot (spot_named p) (place_in x)))
+    where
+      go : (a : Bool) → (a && eqb x.offset o) ≡ cond a (eqb x.offset o) false
+      go true = refl
+      go false = refl
 
 pub block_found_lem : (n : ℕ) (l : List Row) → is_there_any (filter (hits (test.Block n)) l) ≡ has_block (map block_of l) n
 unfolding filter has_block
@@ -24,19 +50,14 @@ block_found_lem n (r ∷ l) = go (eqb r.0 n) (block_found_lem n l)
     go true e = refl
     go false e = e
 
--- What is read of the first row, and where there is none.
+-- What is read of the first row; 0 where there is none.
 
-pub first_none : (l : List Row) → None ≡ first l → no_row ≡ newest_of l
+pub first_read : (f : Row → ℕ) → f no_row ≡ 0 → (l : List Row) → option_map_or f (first l) 0 ≡ f (newest_of l)
 unfolding newest_of
-first_none [] e = refl
-first_none (r ∷ l) e = absurd (let z : ◌≡◌ {A = ℕ} 0 1 = cc in omega arith)
+first_read f e [] = sym e
+first_read f e (r ∷ l) = refl
 
-pub first_some : (l : List Row) {r : Row} → Some r ≡ first l → r ≡ newest_of l
-unfolding newest_of
-first_some [] e = absurd (let z : ◌≡◌ {A = ℕ} 0 1 = cc in omega arith)
-first_some (x ∷ l) {r} e = let z : r ≡ x = cc in z
-
-abbrev count_on : Direction → Row → ℕ
+abbrev pub count_on : Direction → Row → ℕ
 count_on d r = new_count r.1 r.2 d
 
 pub ports_found : (n : ℕ) (d : Direction) (l : List Row) → count_on d (newest_of (filter (hits (test.Block n)) l)) ≡ ports_on_side (map block_of l) n d
@@ -50,9 +71,9 @@ ports_found n d (r ∷ l) = go (eqb r.0 n) (ports_found n d l)
     go true e = refl
     go false e = e
 
-pub no_ports : (n : ℕ) (d : Direction) (l : List Row) → None ≡ first (filter (hits (test.Block n)) l) → 0 ≡ ports_on_side (map block_of l) n d
-no_ports n Incoming l e = ap (λ (r : Row). r.1) (first_none (filter (hits (test.Block n)) l) e) ∙ ports_found n Incoming l
-no_ports n Outgoing l e = ap (λ (r : Row). r.2) (first_none (filter (hits (test.Block n)) l) e) ∙ ports_found n Outgoing l
+pub no_ports : (d : Direction) → count_on d no_row ≡ 0
+no_ports Incoming = refl
+no_ports Outgoing = refl
 
 pub subports_found : (p : SketchPort) (l : List Row) → (newest_of (filter (hits (test.Split (ask.AtPort p))) l)).3 ≡ subports_among (map split_of l) (spot_named p)
 unfolding filter subports_among newest_of

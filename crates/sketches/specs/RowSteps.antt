@@ -1,73 +1,83 @@
 -- Turns of the loops over a table, and what a store of a row leaves.
 use Rattle.std.specs.Prelude.{◌≡◌, Bool, cond, Option, Some, None, is_some}
 use Rattle.std.proofs.Math.Path.{refl, sym, ap, subst}
-use Rattle.std.proofs.Common.{◌∙◌, length-set, get_or-set_same, get_or-set_other}
+use Rattle.std.proofs.Common.{◌∙◌, length-set, get_or-set_same, get_or-set_other, get_or, take}
+use Rattle.std.proofs.lemmas.List.{get_or-take}
+use Rattle.std.proofs.lemmas.List.Sums.{count_by_more_yes, count_by_more_no, sum_by_more}
+use Rattle.std.specs.List.{count_by, sum_by}
 use Rattle.std.proofs.Math.Bool.{true, false}
 use mathlib.Core.List.{List, [], ◌∷◌, map}
 use Prim.Native.Nat.{ℕ, zero, suc, ◌+◌, ◌-◌, ◌≤◌, ◌<◌}
 use Rattle.std.proofs.Math.Numerals.{add-one}
 use native.Mathlib.Omega.{arith}
 use Rattle.std.proofs.Math.ListN.{length}
-use borrow.Author.Tests.{le-leb, lt-leb}
+use borrow.Author.Tests.{le-leb, leb-true, eqb-true, eqb-false}
+use Rattle.std.proofs.Math.Dec.{eqb, leb}
 use Rattle.port_tables.specs.Lists.{filter}
+use Rattle.sketches.specs.Searches.{Searched, SearchedBack}
 use Rattle.sketches.specs.Plan.{PlanBlock, ports_in_all}
 use Rattle.sketches.specs.Rows.{row_at, put_row, rows_in, Table, newest_hit, oldest_hit, block_of, past, first, is_there_any, no_row}
 use Rattle.sketches.specs.declared.rows.Row.{Row}
 
 -- The newest and the oldest row that is hit.
 
-module _ (f : Row → Bool) (t : List Row) (low : ℕ) where
-  pub newest_found : (i : ℕ) → low < i → f (row_at t (i - 1)) ≡ true → suc (i - 1) ≡ newest_hit f t low i
-  unfolding newest_hit
-  newest_found zero h e = absurd (omega arith)
-  newest_found (suc i) h e =
-      let p : suc i - 1 ≡ i = omega arith in
-      let q : f (row_at t i) ≡ true = subst (λ (n : ℕ). f (row_at t n) ≡ true) p e in
-      rw (p, le-leb low i (omega arith), q)
-
-  pub newest_passed : (i : ℕ) → low < i → f (row_at t (i - 1)) ≡ false → newest_hit f t low (i - 1) ≡ newest_hit f t low i
-  unfolding newest_hit
-  newest_passed zero h e = absurd (omega arith)
-  newest_passed (suc i) h e =
-      let p : suc i - 1 ≡ i = omega arith in
-      let q : f (row_at t i) ≡ false = subst (λ (n : ℕ). f (row_at t n) ≡ false) p e in
-      rw (p, le-leb low i (omega arith), q)
-
-  pub none_newest : (i : ℕ) → i ≤ low → 0 ≡ newest_hit f t low i
-  unfolding newest_hit
-  none_newest zero h = refl
-  none_newest (suc i) h = rw (lt-leb low i (omega arith))
-
 module _ (f : Row → Bool) (t : List Row) where
-  oldest_found_in : (i n : ℕ) → 0 < n → f (row_at t i) ≡ true → suc i ≡ oldest_hit f t i n
+  oldest_passed : (i n : ℕ) → ((k : ℕ) → i ≤ k → k < i + n → f (row_at t k) ≡ false) → 0 ≡ oldest_hit f t i n
   unfolding oldest_hit
-  oldest_found_in i zero h e = absurd (omega arith)
-  oldest_found_in i (suc n) h e = rw e
+  oldest_passed i zero h = refl
+  oldest_passed i (suc n) h = rw (h i (omega arith) (omega arith)) (oldest_passed (suc i) n (λ k a b. h k (omega arith) (omega arith)))
 
-  pub oldest_found : (i high : ℕ) → i < high → f (row_at t i) ≡ true → suc i ≡ oldest_hit f t i (high - i)
-  oldest_found i high h e = oldest_found_in i (high - i) (omega arith) e
-
-  oldest_passed_in : (i n : ℕ) → 0 < n → f (row_at t i) ≡ false → oldest_hit f t (suc i) (n - 1) ≡ oldest_hit f t i n
+  oldest_stopped : (i n d : ℕ) → d < n → f (row_at t (i + d)) ≡ true → ((k : ℕ) → i ≤ k → k < i + d → f (row_at t k) ≡ false) → suc (i + d) ≡ oldest_hit f t i n
   unfolding oldest_hit
-  oldest_passed_in i zero h e = absurd (omega arith)
-  oldest_passed_in i (suc n) h e = let p : suc n - 1 ≡ n = omega arith in rw (p, e)
+  oldest_stopped i zero d l e h = absurd (omega arith)
+  oldest_stopped i (suc n) zero l e h = let s : i + 0 ≡ i = omega arith in rw (rw s at e, s)
+  oldest_stopped i (suc n) (suc d) l e h =
+      let s : i + suc d ≡ suc i + d = omega arith in
+      rw (h i (omega arith) (omega arith), s) (oldest_stopped (suc i) n d (omega arith) (rw s at e) (λ k a b. h k (omega arith) (omega arith)))
 
-  pub oldest_passed : (i high : ℕ) → i < high → f (row_at t i) ≡ false → oldest_hit f t (i + 1) (high - (i + 1)) ≡ oldest_hit f t i (high - i)
-  oldest_passed i high h e =
-      let p : high - (i + 1) ≡ (high - i) - 1 = omega arith in
-      rw (p, add-one i) (oldest_passed_in i (high - i) (omega arith) e)
+  pub oldest_searched : (from end : ℕ) (r : Option ℕ) → Searched (λ k. f (row_at t k)) from end r → past r ≡ oldest_hit f t from (end - from)
+  oldest_searched from end None h = oldest_passed from (end - from) (λ k a b. h k a (omega arith))
+  oldest_searched from end (Some i) (low, high, hit, passed) =
+      let s : from + (i - from) ≡ i = omega arith in
+      rw (sym s) (oldest_stopped from (end - from) (i - from) (omega arith) (rw s hit) (λ k a b. passed k a (omega arith)))
 
-  pub none_oldest : (i high : ℕ) → high ≤ i → 0 ≡ oldest_hit f t i (high - i)
-  unfolding oldest_hit
-  none_oldest i high h = let p : high - i ≡ 0 = omega arith in rw p
+module _ (f : Row → Bool) (t : List Row) (low : ℕ) where
+  newest_passed : (high : ℕ) → ((k : ℕ) → low ≤ k → k < high → f (row_at t k) ≡ false) → 0 ≡ newest_hit f t low high
+  unfolding newest_hit
+  newest_passed zero h = refl
+  newest_passed (suc n) h = go (leb low n) refl (newest_passed n (λ k a b. h k a (omega arith)))
+    where
+      go : (b : Bool) → leb low n ≡ b → 0 ≡ newest_hit f t low n → 0 ≡ cond b (cond (f (row_at t n)) (suc n) (newest_hit f t low n)) 0
+      go true e rest = rw (h n (leb-true low n e) (omega arith)) rest
+      go false e rest = refl
+
+  newest_stopped : (high i : ℕ) → low ≤ i → i < high → f (row_at t i) ≡ true → ((k : ℕ) → i < k → k < high → f (row_at t k) ≡ false) → suc i ≡ newest_hit f t low high
+  unfolding newest_hit
+  newest_stopped zero i l m e h = absurd (omega arith)
+  newest_stopped (suc n) i l m e h = rw (le-leb low n (omega arith)) (go (eqb i n) refl (λ q. newest_stopped n i l q e (λ k a b. h k a (omega arith))))
+    where
+      go : (b : Bool) → eqb i n ≡ b → (i < n → suc i ≡ newest_hit f t low n) → suc i ≡ cond (f (row_at t n)) (suc n) (newest_hit f t low n)
+      go true q rest = let s : i ≡ n = eqb-true i n q in rw (rw s at e) (ap suc s)
+      go false q rest = let d = eqb-false i n q in rw (h n (omega (arith, d)) (omega arith)) (rest (omega (arith, d)))
+
+  pub newest_searched : (high : ℕ) (r : Option ℕ) → SearchedBack (λ k. f (row_at t k)) low high r → past r ≡ newest_hit f t low high
+  newest_searched high None h = newest_passed high h
+  newest_searched high (Some i) (l, m, e, h) = newest_stopped high i l m e h
+
+-- Rows whose numbers are summed.
+
+pub ports_taken : (k : Row → PlanBlock) (seen : List Row → List PlanBlock) → seen [] ≡ [] → ((r : Row) (l : List Row) → seen (r ∷ l) ≡ k r ∷ seen l) → (t : List Row) (n : ℕ) → n ≤ length t
+    → sum_by (λ r. (k r).incoming + (k r).outgoing) (take n t) ≡ ports_in_all (seen (rows_in t n))
+unfolding rows_in ports_in_all
+ports_taken k seen a b t zero h = rw a refl
+ports_taken k seen a b t (suc n) h =
+    let q : sum_by (λ r. (k r).incoming + (k r).outgoing) (take (n + 1) t) ≡ sum_by (λ r. (k r).incoming + (k r).outgoing) (take n t) + ((k (row_at t n)).incoming + (k (row_at t n)).outgoing) = sum_by_more (λ r. (k r).incoming + (k r).outgoing) t n no_row (omega arith) in
+    let p = ports_taken k seen a b t n (omega arith) in
+    rw (b (row_at t n) (rows_in t n)) (rw add-one at q ∙ omega arith)
 
 -- Rows that are counted.
 
 module _ (f : Row → Bool) (t : List Row) where
-  pub one_more_hit : (i n : ℕ) → f (row_at t i) ≡ true → n ≡ length (filter f (rows_in t i)) → n + 1 ≡ length (filter f (rows_in t (i + 1)))
-  unfolding rows_in filter
-  one_more_hit i n e h = rw (add-one i, add-one n, e) (ap suc h)
-
   pub none_more_hit : (i : ℕ) → f (row_at t i) ≡ false → filter f (rows_in t (i + 1)) ≡ filter f (rows_in t i)
   unfolding rows_in filter
   none_more_hit i e = rw (add-one i, e)
@@ -75,6 +85,19 @@ module _ (f : Row → Bool) (t : List Row) where
   pub one_more_kept : (i : ℕ) → f (row_at t i) ≡ true → filter f (rows_in t (i + 1)) ≡ row_at t i ∷ filter f (rows_in t i)
   unfolding rows_in filter
   one_more_kept i e = rw (add-one i, e)
+
+-- the same rows as the front of a list
+pub row_taken : (t : List Row) (n i : ℕ) → i < n → get_or (take n t) i no_row ≡ row_at t i
+row_taken t n i h = get_or-take n t i no_row h
+
+pub count_taken : (f : Row → Bool) (t : List Row) (n : ℕ) → n ≤ length t → count_by f (take n t) ≡ length (filter f (rows_in t n))
+unfolding rows_in filter
+count_taken f t zero h = refl
+count_taken f t (suc n) h = go (f (row_at t n)) refl (count_taken f t n (omega arith))
+  where
+    go : (b : Bool) → f (row_at t n) ≡ b → count_by f (take n t) ≡ length (filter f (rows_in t n)) → count_by f (take (suc n) t) ≡ length (filter f (rows_in t (suc n)))
+    go true p e = let q : count_by f (take (n + 1) t) ≡ count_by f (take n t) + 1 = count_by_more_yes f t n no_row (omega arith) p in rw p (rw (add-one, add-one) at q ∙ ap suc e)
+    go false p e = let q : count_by f (take (n + 1) t) ≡ count_by f (take n t) = count_by_more_no f t n no_row (omega arith) p in rw p (rw add-one at q ∙ e)
 
 -- A row is stored.
 
@@ -152,10 +175,6 @@ pub record Changing (g : PlanBlock → PlanBlock) (t₀ : List Row) (count : ℕ
   pub rows : map block_of (rows_in t i) ≡ map g (map block_of (rows_in t₀ i))
 
 module _ (g : PlanBlock → PlanBlock) (t₀ : List Row) (count : ℕ) where
-  pub changing_begins : Table t₀ → Changing g t₀ count t₀ 0
-  unfolding rows_in
-  changing_begins h = record { within = omega arith; table = h; rest = λ j l. refl; rows = refl }
-
   pub changing_turns : (t u : List Row) (i : ℕ) (r s : Row) → count ≤ 3072 → i < count → Changing g t₀ count t i → r ≡ row_at t i → block_of s ≡ g (block_of r) →
       u ≡ put_row t i s → Changing g t₀ count u (i + 1)
   unfolding rows_in
@@ -179,14 +198,6 @@ module _ (g : PlanBlock → PlanBlock) (t₀ : List Row) (count : ℕ) where
       subst (λ (n : ℕ). map block_of (rows_in t n) ≡ map g (map block_of (rows_in t₀ n))) e c.rows
 
 -- Ports that are counted.
-
-pub ports_more : (l : List PlanBlock) (b : PlanBlock) (p n : ℕ) → p ≡ ports_in_all l → n ≡ b.incoming + b.outgoing → p + n ≡ ports_in_all (b ∷ l)
-unfolding ports_in_all
-ports_more l b p n e h = omega arith
-
-pub rows_more : (t : List Row) (i : ℕ) → rows_in t (i + 1) ≡ row_at t i ∷ rows_in t i
-unfolding rows_in
-rows_more t i = rw (add-one i)
 
 -- Neighbours.
 

@@ -77,7 +77,7 @@ wires_in t n = map wire_of (rows_in t n)
 -- Tests.
 
 abbrev pub place_in : RowEnd → Place
-place_in x = record { node = x.block; side = x.side; pos = x.position; offset = x.offset }
+place_in x = record { node = x.port.block; side = x.port.side; pos = x.port.position; offset = x.offset }
 
 abbrev pub end_hits : EndTest → Place → Bool
 end_hits (ask.OfBlock n) x = of_node n x

@@ -1,19 +1,17 @@
 -- A sheet over the tables: the entries that are left, on the tables as they are, amount to the whole.
-use Rattle.std.specs.Prelude.{◌≡◌, refl, List, [], ◌∷◌, ◌++◌, ℕ, ◌+◌, ◌≤◌, ◌<◌, length, get_or, take, drop, set, Result, Ok, Err}
-use Rattle.std.proofs.Common.{sym, ap, ◌∙◌, append_assoc, append-nil, add-one, arith, length-set, take-suc-set, drop-cons, take_all, lt-ltb, le-ltb}
+use Rattle.std.specs.Prelude.{◌≡◌, refl, List, [], ◌++◌, ℕ, ◌+◌, ◌≤◌, ◌<◌, length, take, drop, Result, Ok, Err}
+use Rattle.std.proofs.Common.{sym, ap, ◌∙◌, append-nil, arith, take_all, lt-ltb, le-ltb}
 use Rattle.std.proofs.Math.ListN.{drop_of_length-le}
-use Rattle.std.proofs.lemmas.List.{drop-drop, drop-set-lt}
+use Rattle.std.proofs.lemmas.List.{drop-drop}
 use Rattle.port_tables.specs.declared.direction.Direction.TheVariants.{Incoming}
 use Rattle.sketches.specs.Plan.{Plan, end#}
-use Rattle.sketches.specs.PlanCalls.{Sketched, leaves, link_ports, sheet_entries, sheet_plan, sheet_answered, sheet}
-use Rattle.sketches.specs.PlanNumbers.{link_numbers, sheet_numbers}
-use Rattle.sketches.specs.Held.{Held, plan_of, Left}
+use Rattle.sketches.specs.PlanCalls.{Sketched, leaves, sheet_entries, sheet_plan, sheet_answered, sheet}
+use Rattle.sketches.specs.PlanNumbers.{sheet_numbers}
+use Rattle.sketches.specs.Held.{Held, plan_of}
 use Rattle.sketches.specs.declared.sketch.TooManyEntries.{TooManyEntries}
 use Rattle.sketches.specs.declared.sketch.SketchPort.{SketchPort}
 use Rattle.sketches.specs.declared.sketch.SheetEntry.{SheetEntry}
 use Rattle.sketches.specs.declared.sketch.Reason.TheVariants.{NoRoom}
-use Rattle.sketches.specs.declared.sketch.Reason.{Reason}
-use Rattle.sketches.specs.declared.sketch.SketchEnd.{SketchEnd}
 
 abbrev no_port : SketchPort
 no_port = record { block = 0; side = Incoming; position = 0 }
@@ -65,31 +63,6 @@ sheeting_begins k es = record { long = refl; plan = refl; answers = refl; rest =
 
 rest_of_it : {K : Plan} {es : List SheetEntry} {k : Held} {done : List SheetEntry} {i : ℕ} → Sheeting K es k done i → i < length done → drop (i + 1) done ≡ drop (i + 1) es
 rest_of_it {K} {es} {k} {done} {i} c l = sym (drop-drop 1 i done) ∙ ap (drop 1) c.rest ∙ drop-drop 1 i es
-
-pub sheeting_turns : {K : Plan} {es : List SheetEntry} {k : Held} {done : List SheetEntry} {i : ℕ} → Sheeting K es k done i → i < length done → {k' : Held} {a : Result (SketchEnd × SketchEnd) Reason} →
-    Left link_numbers (link_ports (plan_of k) (get_or done i past_entry).from (get_or done i past_entry).to) k' a →
-    Sheeting K es k' (set done i (record { from = (get_or done i past_entry).from; to = (get_or done i past_entry).to; answer = a })) (i + 1)
-unfolding sheet_plan sheet_answered
-sheeting_turns {K} {es} {k} {done} {i} c l {k'} {a} r =
-    let long = c.long in
-    let m : i < length es = omega arith in
-    let x : SheetEntry = get_or done i past_entry in
-    let new : SheetEntry = record { from = x.from; to = x.to; answer = a } in
-    let d : drop i es ≡ x ∷ drop (i + 1) es = sym c.rest ∙ (rw (add-one i, drop-cons done i past_entry l) refl) ∙ ap (λ (z : List SheetEntry). x ∷ z) (rest_of_it c l) in
-    let e : plan_of k' ≡ (link_ports (plan_of k) x.from x.to).plan = r.plan in
-    let f : a ≡ (link_ports (plan_of k) x.from x.to).answer = r.answered in
-    record {
-      long = length-set done i new ∙ long;
-      plan = ap (λ (z : Plan). sheet_plan z (drop (i + 1) es)) e ∙ sym (ap (sheet_plan (plan_of k)) d) ∙ c.plan;
-      answers =
-          ap (λ (z : List SheetEntry). z ++ sheet_answered (plan_of k') (drop (i + 1) es)) (ap (λ (z : ℕ). take z (set done i new)) (add-one i) ∙ take-suc-set done i new l)
-          ∙ append_assoc (take i done) (new ∷ []) (sheet_answered (plan_of k') (drop (i + 1) es))
-          ∙ ap (λ (z : Result (SketchEnd × SketchEnd) Reason). take i done ++ (record { from = x.from; to = x.to; answer = z } ∷ sheet_answered (plan_of k') (drop (i + 1) es))) f
-          ∙ ap (λ (z : Plan). take i done ++ (record { from = x.from; to = x.to; answer = (link_ports (plan_of k) x.from x.to).answer } ∷ sheet_answered z (drop (i + 1) es))) e
-          ∙ sym (ap (λ (z : List SheetEntry). take i done ++ sheet_answered (plan_of k) z) d)
-          ∙ c.answers;
-      rest = drop-set-lt (i + 1) done i new (omega arith) ∙ rest_of_it c l;
-    }
 
 pub sheeting_ends : {K : Plan} {es : List SheetEntry} {k : Held} {done : List SheetEntry} {i : ℕ} → length es ≤ sheet_entries → Sheeting K es k done i → length done ≤ i → SheetLeaves K es k done (Ok tt)
 unfolding sheet_plan sheet_answered

@@ -2,10 +2,10 @@
 use Rattle.std.specs.Prelude.{◌≡◌, refl, Bool, true, false, cond, List, ◌∷◌, eqb, leb, ltb, Option, Some, None, Result, Ok, Err}
 use Rattle.std.proofs.Common.{sym, ◌∙◌, inl, inr}
 use Rattle.std.proofs.Math.Path.{ap}
-use Prim.Native.Nat.{ℕ, zero, suc, ◌+◌, ◌-◌, ◌≤◌, ◌<◌, min}
+use Prim.Native.Nat.{ℕ, zero, suc, ◌+◌, ◌-◌, ◌≤◌, ◌<◌, min, max}
 use native.Mathlib.Omega.{arith}
 use Rattle.std.proofs.Math.Numerals.{add-one}
-use borrow.Author.Tests.{eqb-true, eqb-false, ne_eqb, leb-true, leb-false, le-leb, lt-leb, lt-ltb, le-ltb}
+use borrow.Author.Tests.{eqb-true, eqb-false, leb-true, leb-false, le-leb, lt-leb, lt-ltb, le-ltb}
 use Rattle.port_tables.specs.Lists.{Member}
 use Rattle.port_tables.specs.Places.{Wire}
 use Rattle.port_tables.specs.Listing.{map_member}
@@ -106,11 +106,6 @@ newest_high f t low (suc n) = go (leb low n) (f (row_at t n)) (newest_high f t l
     go true false h = omega arith
     go false b h = omega arith
 
--- the rows that are left of a whole walk are all
-pub whole_found : (t : List Row) (n : ℕ) (x : Test) {w : Walk} {k : ℕ} → w ≡ whole_walk n x → k ≡ newest_hit (hits w.test) t w.low (min w.high n) → k ≡ newest_hit (hits x) t 0 n
-whole_found t n x {w} {k} e h =
-    h ∙ ap (λ (v : Walk). newest_hit (hits v.test) t v.low (min v.high n)) e ∙ ap (newest_hit (hits x) t 0) (omega arith)
-
 pub oldest_high : (f : Row → Bool) (t : List Row) (i n : ℕ) → oldest_hit f t i n ≤ i + n
 unfolding oldest_hit
 oldest_high f t i zero = omega arith
@@ -191,8 +186,12 @@ module _ (t : List Row) (n : ℕ) (w : Walk) (k : Option ℕ) where
 
 -- Subports.
 
-pub knows_more : (K : Plan) (x : SketchPort) {c : ℕ} → PlanWf K → c ≡ subports_of K x → (c ≡ 0 → ⊥) → Knows K x c
-knows_more K x wf e z = let l = subports_within K x wf in record { count = e ∙ rw (ne_eqb (subports_of K x) 0 (λ q. z (e ∙ q))); within = omega arith }
+pub knows_more : (K : Plan) (x : SketchPort) {c n : ℕ} → PlanWf K → c ≡ subports_of K x → n ≡ max c 1 → Knows K x n
+knows_more K x {c} {n} wf e f = let l = subports_within K x wf in record { count = f ∙ go (eqb c 0) refl ∙ ap offset_count e; within = omega arith }
+  where
+    go : (b : Bool) → eqb c 0 ≡ b → max c 1 ≡ cond b 1 c
+    go true t = let z = eqb-true c 0 t in omega arith
+    go false t = let z = eqb-false c 0 t in omega (arith, z)
 
 module _ (K : Plan) (w : SubportWalk) {n : ℕ} (e : n ≡ ports_on_side K.blocks w.port.block w.port.side) where
   pub subports_end : n ≤ w.port.position → None ≡ next_subport K w
@@ -205,16 +204,6 @@ module _ (K : Plan) (w : SubportWalk) {n : ℕ} (e : n ≡ ports_on_side K.block
     subports_here h =
         let a = k.count in
         rw (lt-leb (ports_on_side K.blocks w.port.block w.port.side) w.port.position (omega arith), lt-ltb w.offset (offset_count (subports_of K w.port)) (omega arith), add-one w.offset)
-
-    pub subports_last : c ≤ w.offset → n ≤ w.port.position + 1 → None ≡ next_subport K w
-    unfolding next_subport
-    subports_last h q =
-        let a = k.count in
-        rw (
-          lt-leb (ports_on_side K.blocks w.port.block w.port.side) w.port.position (omega arith),
-          le-ltb w.offset (offset_count (subports_of K w.port)) (omega arith),
-          le-leb (ports_on_side K.blocks w.port.block w.port.side) (suc w.port.position) (omega arith),
-        )
 
     pub subports_on : c ≤ w.offset → w.port.position + 1 < n →
         (Some (end# (port_on w.port.block w.port.side (w.port.position + 1)) 0, record { port = port_on w.port.block w.port.side (w.port.position + 1); offset = 1 })) ≡ next_subport K w

@@ -1,6 +1,6 @@
 -- The number of subports of a port over the table of split ports.
-use Rattle.std.specs.Prelude.{◌≡◌, refl, Bool, true, false, cond, not, List, ◌∷◌, map, ℕ, ◌+◌, ◌≤◌, ◌<◌, max, eqb, length}
-use Rattle.std.proofs.Common.{sym, ap, ◌∙◌, add-one, arith, eq-eqb, ne_eqb}
+use Rattle.std.specs.Prelude.{◌≡◌, refl, Bool, true, false, cond, not, List, ◌∷◌, map, ℕ, ◌≤◌, ◌<◌, eqb, length}
+use Rattle.std.proofs.Common.{sym, ap, ◌∙◌, arith, eq-eqb, ne_eqb}
 use Rattle.std.proofs.Math.Path.{subst}
 use Rattle.port_tables.specs.Lists.{filter}
 use Rattle.port_tables.specs.Entries.{side_number}
@@ -77,9 +77,6 @@ module _ (t : List Row) (n : ℕ) (p : SketchPort) (c : ℕ) where
         ∙ ap (λ (y : Place). y ∷ splits_in t' kept) (split_row_is p c) ∙ sym (more z)
 
 -- Making ready.
-
-pub ready_more : (c o : ℕ) {n m : ℕ} → (c ≡ 0 → ⊥) → n ≡ c → m ≡ max n (o + 1) → m ≡ subports_ready c o
-ready_more c o h e p = p ∙ rw (ne_eqb c 0 h, e, add-one o)
 
 -- a plan, in these tables
 pub record IsPlan (K : Plan) (b s w : List Row) (h : Totals) : Type 0 where

@@ -19,16 +19,13 @@ impl Sketch {
         requires { ports ≤ node_ports }
         ensures { result ≡ no_room self.now.totals.adds self.now.totals.blocks (plan_of self.now).blocks ports }
     {
-        if self.adds == 4294967295 {
-            return true;
-        }
-        if NODE_SLOTS <= self.blocks.count {
-            return true;
-        }
-        PORT_SLOTS < self.blocks.ports_in_all() + ports
+        self.adds == u32::MAX
+            || NODE_SLOTS <= self.blocks.count
+            || PORT_SLOTS < self.blocks.ports_in_all() + ports
     }
 
     // Adds a block: its name is how many adds were accepted before it.
+    #[tactic(auto, unfolding(crate::specs::PlanCalls::add_block), using(crate::specs::Held::seen_as))]
     pub fn add(&mut self, incoming: u32, outgoing: u32) -> Result<u32, Reason>
         ensures { Left add_numbers (add_block (plan_of self.old) incoming outgoing) self.new result }
     {
@@ -46,6 +43,7 @@ impl Sketch {
     }
 
     // Removes a block and each wire at it.
+    #[tactic(auto, using(crate::specs::BlockSteps::removed_unknown, crate::specs::Held::seen_as, crate::specs::Held::back))]
     pub fn remove(&mut self, name: u32) -> Result<(), Reason>
         ensures { Left done_numbers (remove_block (plan_of self.old) name) self.new result }
     {
@@ -60,6 +58,7 @@ impl Sketch {
     }
 
     // Gives a block other counts; each wire at a dropped position goes.
+    #[tactic(auto, unfolding(crate::specs::PlanCalls::set_counts), using(crate::specs::BlockSteps::resized_unknown, crate::specs::BlockSteps::resized_no_room, crate::specs::BlockSteps::resized, crate::specs::Held::seen_as, crate::specs::Held::back))]
     pub fn resize(&mut self, name: u32, incoming: u32, outgoing: u32) -> Result<(), Reason>
         ensures { Left done_numbers (set_counts (plan_of self.old) name incoming outgoing) self.new result }
     {

@@ -20,6 +20,7 @@ pub struct SketchCounts {
 
 impl Sketch {
     // The blocks, their ports and the wires.
+    #[tactic(auto, using(crate::specs::BlockSteps::length_blocks, crate::specs::Offsets::length_wires))]
     pub fn counts(&self) -> SketchCounts
         ensures { result ≡ counts_of (plan_of self.now) }
     {
@@ -31,6 +32,7 @@ impl Sketch {
     }
 
     // The wires at a port.
+    #[tactic(auto, using(crate::specs::CountSteps::fan_unknown, crate::specs::CountSteps::fan_counted, crate::specs::Held::on, crate::specs::Held::back))]
     pub fn fan_out(&self, port: SketchPort) -> Result<usize, Reason>
         ensures { Answers count_numbers (port_fan_out (plan_of self.now) port) result }
     {
@@ -42,6 +44,7 @@ impl Sketch {
     }
 
     // The wires that leave a block.
+    #[tactic(auto, using(crate::specs::CountSteps::block_fan_unknown, crate::specs::CountSteps::block_fan_counted, crate::specs::Held::on, crate::specs::Held::back))]
     pub fn block_fan_out(&self, name: u32) -> Result<usize, Reason>
         ensures { Answers count_numbers (block_fan_out (plan_of self.now) name) result }
     {

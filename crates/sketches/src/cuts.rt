@@ -1,43 +1,16 @@
 // Cutting, what an end is linked with, and tidying.
 ghost use Rattle.std.specs.Prelude.{◌≡◌, ◌≤◌};
 ghost use Rattle.sketches.specs.Plan.{far_from};
-ghost use Rattle.sketches.specs.PlanCalls.{port_found, end_found, cut_port, subport_link, cut_subport, tidied, tidy_port};
+ghost use Rattle.sketches.specs.PlanCalls.{cut_port, subport_link, cut_subport, tidied, tidy_port};
 ghost use Rattle.sketches.specs.PlanNumbers.{done_numbers, cut_numbers, found_numbers};
 ghost use Rattle.sketches.specs.PlanWf.{most_subports};
 ghost use Rattle.sketches.specs.Rows.{end_hits};
 ghost use Rattle.sketches.specs.Held.{plan_of, Left};
-ghost use Rattle.sketches.specs.CutSteps.{far_of, FarFits, Answers};
+ghost use Rattle.sketches.specs.CutSteps.{far_of, Answers};
 
 use crate::sketch::{Reason, SketchEnd, SketchPort};
 use crate::tests::{EndTest, RowEnd, Test, end_hits, in_end, out_end};
 use crate::totals::Sketch;
-
-fn port_of(end: RowEnd) -> SketchPort
-    ensures { result ≡ record { block = end.block; side = end.side; position = end.position } }
-{
-    let side = end.side;
-    SketchPort {
-        block: end.block,
-        side,
-        position: end.position,
-    }
-}
-
-fn port_found(far: Option<RowEnd>) -> Result<Option<SketchPort>, Reason>
-    ensures { result ≡ port_found (far_of far) }
-{
-    Ok(far.map(port_of))
-}
-
-fn end_found(far: Option<RowEnd>) -> Result<Option<SketchEnd>, Reason>
-    requires { FarFits far }
-    ensures { result ≡ end_found (far_of far) }
-{
-    Ok(far.map(|end| SketchEnd {
-        port: port_of(end),
-        offset: end.offset as u16,
-    }))
-}
 
 // The subports that tidying leaves, by one more than the highest wired offset.
 fn subports_left(above: usize) -> u32
@@ -52,6 +25,7 @@ fn subports_left(above: usize) -> u32
 
 impl Sketch {
     // The far end of the newest wire that has such an end.
+    #[tactic(auto, using(crate::specs::CutSteps::far_nothing, crate::specs::CutSteps::far_out, crate::specs::Held::on))]
     fn far_from(&self, test: EndTest) -> Option<RowEnd>
         ensures { far_of result ≡ far_from (end_hits test) (plan_of self.now).wires }
     {
@@ -63,6 +37,7 @@ impl Sketch {
     }
 
     // Cuts each wire at a port, which is no longer split; it answers itself if it was, else the far port.
+    #[tactic(auto, unfolding(crate::specs::Plan::far_from, crate::specs::Plan::is_there, crate::specs::PlanCalls::cut_port, port_tables::specs::Places::at_spot), using(crate::specs::CutSteps::port_answered, crate::specs::CutSteps::cut_unknown, crate::specs::CutSteps::cut_room, crate::specs::CutSteps::cut_unsplit, crate::specs::CutSteps::cut_split, crate::specs::Held::seen_as, crate::specs::Held::back))]
     pub fn cut(&mut self, port: SketchPort) -> Result<Option<SketchPort>, Reason>
         ensures { Left cut_numbers (cut_port (plan_of self.old) port) self.new result }
     {
@@ -74,32 +49,34 @@ impl Sketch {
         self.wires.drop_where(Test::Wire(EndTest::AtPort(port)));
         self.splits.set_subports(port, 0);
         if subports == 0 {
-            return port_found(far);
+            return Ok(far.map(|end| end.port));
         }
         Ok(Some(port))
     }
 
     // What an end is linked with.
+    #[tactic(auto, unfolding(crate::specs::PlanCalls::subport_link, port_tables::specs::Places::at_end), using(crate::specs::CutSteps::answers_as, crate::specs::CutSteps::far_fits, crate::specs::CutSteps::end_answered, crate::specs::CutSteps::end_refused, crate::specs::CutSteps::end_asked))]
     pub fn subport_link(&self, end: SketchEnd) -> Result<Option<SketchEnd>, Reason>
         ensures { Answers found_numbers (subport_link (plan_of self.now) end.port end.offset) result }
     {
         self.judge_end(end)?;
-        let read = self.offset_read(end);
-        end_found(self.far_from(EndTest::AtEnd(end.port, read as u32)))
+        let far = self.far_from(self.end_test(end));
+        Ok(far.map(|end| end.named()))
     }
 
     // Cuts the wire at an end, if there is one.
+    #[tactic(auto, unfolding(crate::specs::PlanCalls::cut_subport, crate::specs::PlanCalls::subport_link), using(crate::specs::CutSteps::end_cut_refused, crate::specs::CutSteps::end_cut, crate::specs::Held::seen_as, crate::specs::Held::back))]
     pub fn cut_subport(&mut self, end: SketchEnd) -> Result<Option<SketchEnd>, Reason>
         ensures { Left found_numbers (cut_subport (plan_of self.old) end.port end.offset) self.new result }
     {
         let far = self.subport_link(end)?;
-        let read = self.offset_read(end);
-        let test = Test::Wire(EndTest::AtEnd(end.port, read as u32));
+        let test = Test::Wire(self.end_test(end));
         self.wires.drop_where(test);
         Ok(far)
     }
 
     // Drops the empty subports above the highest wired one; an unsplit port is unchanged.
+    #[tactic(auto, using(crate::specs::CutSteps::tidy_unknown, crate::specs::CutSteps::tidy_unsplit, crate::specs::CutSteps::above_fits, crate::specs::CutSteps::tidy_room, crate::specs::CutSteps::tidy_split, crate::specs::Held::seen_as, crate::specs::Held::back))]
     pub fn tidy(&mut self, port: SketchPort) -> Result<(), Reason>
         ensures { Left done_numbers (tidy_port (plan_of self.old) port) self.new result }
     {

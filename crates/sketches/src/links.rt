@@ -6,8 +6,8 @@ ghost use Rattle.sketches.specs.Plan.{place_named, input_taken, wired_side};
 ghost use Rattle.sketches.specs.PlanCalls.{both_linked, link_ports, link_clean};
 ghost use Rattle.sketches.specs.PlanNumbers.{link_numbers};
 ghost use Rattle.sketches.specs.Rows.{wire_of};
-ghost use Rattle.sketches.specs.Held.{plan_of, Left};
-ghost use Rattle.sketches.specs.LinkSteps.{Linkable};
+ghost use Rattle.sketches.specs.Held.{plan_of, Left, HeldWf};
+ghost use Rattle.sketches.specs.LinkSteps.{Linkable, judge_ports};
 
 use crate::rows::Row;
 use crate::sketch::{Reason, SketchEnd, SketchPort};
@@ -46,46 +46,24 @@ impl Sketch {
     fn wired_input(&self, port: SketchPort) -> bool
         ensures { result ≡ wired_side (plan_of self.now) port port.side }
     {
-        let side = port.side;
-        match side {
-            Direction::Incoming => self.is_there(port) && self.is_wired(EndTest::AtPort(port)),
-            Direction::Outgoing => false,
-        }
+        port.side == Direction::Incoming
+            && self.is_there(port)
+            && self.is_wired(EndTest::AtPort(port))
     }
 
     // Whether a link names such an input under release 2.
+    #[tactic(auto, using(crate::specs::LinkSteps::taken_one, crate::specs::LinkSteps::taken_first_lem, crate::specs::LinkSteps::taken_second_lem))]
     pub(crate) fn input_taken(&self, x: SketchPort, y: SketchPort) -> bool
         ensures { result ≡ input_taken (plan_of self.now) x y }
     {
-        let release = self.release;
-        match release {
-            Release::One => false,
-            Release::Two => self.wired_input(x) || self.wired_input(y),
-        }
+        matches!(self.release, Release::Two) && (self.wired_input(x) || self.wired_input(y))
     }
 
-    // Both ports are made ready, and a wire is laid between them.
-    fn link_both(&mut self, x: SketchPort, y: SketchPort) -> (SketchEnd, SketchEnd)
-        requires { Linkable self.old.blocks self.old.splits self.old.wires self.old.totals x y }
-        ensures { Left link_numbers (both_linked (plan_of self.old) x y) self.new (Ok result) }
-    {
-        let first = SketchEnd {
-            port: x,
-            offset: self.offset_ready(x) as u16,
-        };
-        let second = SketchEnd {
-            port: y,
-            offset: self.offset_ready(y) as u16,
-        };
-        self.ready_port(x);
-        self.ready_port(y);
-        self.wires.push(wire_row(first, second));
-        (first, second)
-    }
-
-    // Links two ports. A refusal of the second port, or of the sides, keeps what was made ready.
-    pub fn link(&mut self, x: SketchPort, y: SketchPort) -> Result<(SketchEnd, SketchEnd), Reason>
-        ensures { Left link_numbers (link_ports (plan_of self.old) x y) self.new result }
+    // Two ports that are to be linked.
+    #[tactic(auto, unfolding(crate::specs::LinkSteps::judge_ports), using(port_tables::specs::SameSides::sides_compared))]
+    fn judge_ports(&self, x: SketchPort, y: SketchPort) -> Result<(), Reason>
+        ensures is { result ≡ judge_ports (plan_of self.now) x y }
+        ensures wf { HeldWf self.now }
     {
         if !self.is_there(x) {
             return Err(Reason::UnknownPort);
@@ -94,23 +72,54 @@ impl Sketch {
             return Err(Reason::InputWired);
         }
         if !self.is_there(y) {
-            self.ready_port(x);
             return Err(Reason::UnknownSecondPort);
         }
         let a = x.side;
         let b = y.side;
         if a == b {
-            self.ready_port(x);
-            self.ready_port(y);
             return Err(Reason::SameSide);
         }
         if self.is_full() {
             return Err(Reason::NoRoom);
         }
-        Ok(self.link_both(x, y))
+        Ok(())
+    }
+
+    // Both ports are made ready, and a wire is laid between them.
+    #[tactic(auto, using(crate::specs::SplitSteps::plan_back, crate::specs::LinkSteps::second_there, crate::specs::LinkSteps::still_room, crate::specs::LinkSteps::ends_apart, crate::specs::LinkSteps::both_linked_lem))]
+    fn link_both(&mut self, x: SketchPort, y: SketchPort) -> (SketchEnd, SketchEnd)
+        requires { Linkable self.old.blocks self.old.splits self.old.wires self.old.totals x y }
+        ensures { Left link_numbers (both_linked (plan_of self.old) x y) self.new (Ok result) }
+    {
+        let first = self.ready_port(x);
+        let second = self.ready_port(y);
+        self.wires.push(wire_row(first, second));
+        (first, second)
+    }
+
+    // Links two ports. A refusal of the second port, or of the sides, keeps what was made ready.
+    #[tactic(auto, using(crate::specs::LinkSteps::judged_linkable, crate::specs::LinkSteps::judged_second, crate::specs::LinkSteps::judged_sides, crate::specs::LinkSteps::link_refused, crate::specs::LinkSteps::link_second, crate::specs::LinkSteps::link_sides, crate::specs::LinkSteps::link_made, crate::specs::LinkSteps::both_there))]
+    pub fn link(&mut self, x: SketchPort, y: SketchPort) -> Result<(SketchEnd, SketchEnd), Reason>
+        ensures { Left link_numbers (link_ports (plan_of self.old) x y) self.new result }
+    {
+        let Err(reason) = self.judge_ports(x, y) else {
+            return Ok(self.link_both(x, y));
+        };
+        match reason {
+            Reason::UnknownSecondPort => {
+                self.ready_port(x);
+            }
+            Reason::SameSide => {
+                self.ready_port(x);
+                self.ready_port(y);
+            }
+            _ => {}
+        }
+        Err(reason)
     }
 
     // Links two ports. A refusal leaves nothing.
+    #[tactic(auto, using(crate::specs::LinkSteps::judged_linkable, crate::specs::LinkSteps::clean_refused, crate::specs::LinkSteps::clean_made))]
     pub fn link_clean(
         &mut self,
         x: SketchPort,
@@ -118,23 +127,7 @@ impl Sketch {
     ) -> Result<(SketchEnd, SketchEnd), Reason>
         ensures { Left link_numbers (link_clean (plan_of self.old) x y) self.new result }
     {
-        if !self.is_there(x) {
-            return Err(Reason::UnknownPort);
-        }
-        if self.input_taken(x, y) {
-            return Err(Reason::InputWired);
-        }
-        if !self.is_there(y) {
-            return Err(Reason::UnknownSecondPort);
-        }
-        let a = x.side;
-        let b = y.side;
-        if a == b {
-            return Err(Reason::SameSide);
-        }
-        if self.is_full() {
-            return Err(Reason::NoRoom);
-        }
+        self.judge_ports(x, y)?;
         Ok(self.link_both(x, y))
     }
 }

@@ -1,9 +1,9 @@
 // The wired offsets of a port: the lowest one without a wire, and the highest with one.
-ghost use Rattle.std.specs.Prelude.{◌≡◌, map, ◌≤◌};
+ghost use Rattle.std.specs.Prelude.{◌≡◌, map, not, position};
 ghost use Rattle.sketches.specs.Plan.{spot_named, above_end, above_wired, offset_ready};
-ghost use Rattle.sketches.specs.Rows.{row_slots, place_in, wire_of};
+ghost use Rattle.sketches.specs.Rows.{place_in, wire_of};
 ghost use Rattle.sketches.specs.Held.{plan_of};
-ghost use Rattle.sketches.specs.Offsets.{mark, marked, Marks, lowest_unmarked};
+ghost use Rattle.sketches.specs.Offsets.{mark, marked, Marks};
 
 use crate::rows::{ROWS, Row};
 use crate::sketch::SketchPort;
@@ -12,7 +12,7 @@ use crate::tests::{RowEnd, at_port, in_end, out_end};
 use crate::totals::Sketch;
 use port_tables::numbers::wide;
 
-// Marks an offset; one beyond the table is left out.
+// Marks an offset; one beyond the table is left out. Stays a test of the place: of what `get_mut` lends, a proof keeps the length alone.
 fn mark(marks: &mut [bool; ROWS], offset: u32)
     ensures { marks.new ≡ mark marks.old offset }
 {
@@ -30,17 +30,11 @@ fn mark_end(marks: &mut [bool; ROWS], port: SketchPort, end: RowEnd)
     }
 }
 
-// The lowest offset that is not marked, looking at most so far.
-fn lowest_unmarked(marks: [bool; ROWS], count: usize) -> usize
-    requires { count ≤ row_slots }
-    ensures { result ≡ lowest_unmarked marks 0 count }
+// The lowest offset that is not marked.
+fn lowest_unmarked(marks: &[bool]) -> Option<usize>
+    ensures { result ≡ position not marks.now }
 {
-    for i in 0..count {
-        if !marks[i] {
-            return i;
-        }
-    }
-    count
+    marks.iter().position(|marked| !*marked)
 }
 
 // One more than an offset, where that is higher and its end is at a port.
@@ -67,21 +61,21 @@ impl Rows {
         ensures { Marks (spot_named port) (map wire_of (listed self.now)) result }
     {
         let mut marks = [false; ROWS];
-        for i in 0..self.count {
-            let row = self.rows[i];
-            mark_end(&mut marks, port, out_end(row));
-            mark_end(&mut marks, port, in_end(row));
+        for row in &self.rows[..self.count] {
+            mark_end(&mut marks, port, out_end(*row));
+            mark_end(&mut marks, port, in_end(*row));
         }
         marks
     }
 
     // One more than the highest wired offset of a port; 0 where none is wired.
+    #[tactic(auto, unfolding(crate::specs::Plan::above_wired, crate::specs::Rows::rows_in))]
     fn above_wired(&self, port: SketchPort) -> usize
         ensures { result ≡ above_wired (spot_named port) (map wire_of (listed self.now)) }
     {
         let mut above: usize = 0;
-        for i in 0..self.count {
-            above = above_row(port, self.rows[i], above);
+        for row in &self.rows[..self.count] {
+            above = above_row(port, *row, above);
         }
         above
     }
@@ -89,10 +83,13 @@ impl Rows {
 
 impl Sketch {
     // The lowest offset without a wire.
+    #[tactic(auto, using(crate::specs::Offsets::lowest_marked, crate::specs::Offsets::length_wires))]
     pub(crate) fn offset_ready(&self, port: SketchPort) -> usize
         ensures { result ≡ offset_ready (plan_of self.now) port }
     {
-        lowest_unmarked(self.wires.marks_of(port), self.wires.count)
+        let marks = self.wires.marks_of(port);
+        let count = self.wires.count;
+        lowest_unmarked(&marks[..count]).unwrap_or(count)
     }
 
     // One more than the highest wired offset; 0 where none is wired. Stays a number: so many subports reach up to that offset.

@@ -20,15 +20,14 @@ impl Rows {
     pub(crate) fn subports_among(&self, port: SketchPort) -> u32
         ensures { result ≡ subports_among (map split_of (listed self.now)) (spot_named port) }
     {
-        match self.newest(Test::Split(EndTest::AtPort(port))) {
-            None => 0,
-            Some(row) => row.3,
-        }
+        self.newest(Test::Split(EndTest::AtPort(port)))
+            .map_or(0, |row| row.3)
     }
 }
 
 // The invariant stands in clauses here: who asks may answer before a field is read, and sees the value alone until then.
 impl Sketch {
+    #[tactic(auto, using(crate::specs::RowReads::block_found_lem))]
     pub(crate) fn has_block(&self, name: u32) -> bool
         ensures found { result ≡ has_block (plan_of self.now).blocks name }
         ensures wf { HeldWf self.now }
@@ -41,16 +40,16 @@ impl Sketch {
         ensures ports { result ≡ ports_on_side (plan_of self.now).blocks name side }
         ensures wf { HeldWf self.now }
     {
-        match self.blocks.newest(Test::Block(name)) {
-            None => 0,
-            Some(row) => match side {
+        self.blocks
+            .newest(Test::Block(name))
+            .map_or(0, |row| match side {
                 Direction::Incoming => row.1,
                 Direction::Outgoing => row.2,
-            },
-        }
+            })
     }
 
     // Whether a port is there: its block has that position on that side.
+    #[tactic(auto, unfolding(crate::specs::Plan::is_there))]
     pub(crate) fn is_there(&self, port: SketchPort) -> bool
         ensures found { result ≡ is_there (plan_of self.now) port }
         ensures wf { HeldWf self.now }
@@ -68,6 +67,7 @@ impl Sketch {
     }
 
     // Whether a wire has such an end.
+    #[tactic(auto, using(crate::specs::RowReads::wire_found))]
     pub(crate) fn is_wired(&self, test: EndTest) -> bool
         ensures { result ≡ any_touches (end_hits test) (plan_of self.now).wires }
     {
@@ -75,6 +75,7 @@ impl Sketch {
     }
 
     // Whether no wire more can be laid.
+    #[tactic(auto, using(crate::specs::Offsets::length_wires))]
     pub(crate) fn is_full(&self) -> bool
         ensures { result ≡ is_full (plan_of self.now) }
     {

@@ -1,8 +1,10 @@
 // What a sketch is asked and what it answers: ports and ends by place, refusals, and the entries of a sheet.
 use port_tables::direction::Direction;
+use std::fmt;
+use std::fmt::Write;
 
 // A port: the name of its block, its side and its position there.
-#[derive(Clone, Copy)]
+#[derive(Clone, Copy, PartialEq, Eq)]
 pub struct SketchPort {
     pub block: u32,
     pub side: Direction,
@@ -16,28 +18,46 @@ pub struct SketchEnd {
     pub offset: u16,
 }
 
-// Why a call is refused.
+// Why a call is refused, by the number of the refusal.
 #[derive(Clone, Copy)]
 pub enum Reason {
     // An offset above 65,534.
-    BadOffset,
-    TooManyPorts,
+    BadOffset = 2,
+    TooManyPorts = 3,
     // No block has this name.
-    UnknownBlock,
+    UnknownBlock = 4,
     // The only or first port is not there.
-    UnknownPort,
+    UnknownPort = 7,
     // The port is split and has no such offset.
-    UnknownOffset,
+    UnknownOffset = 9,
     // The call would pass the accepted adds, the blocks, the ports or the wires that a sketch may have.
-    NoRoom,
+    NoRoom = 10,
     // The second port is not there.
-    UnknownSecondPort,
+    UnknownSecondPort = 11,
     // The two ports are on the same side.
-    SameSide,
+    SameSide = 12,
     // An end named has a wire.
-    AlreadyLinked,
+    AlreadyLinked = 13,
     // Under release 2, an input named already has a wire.
-    InputWired,
+    InputWired = 18,
+}
+
+// In plain words.
+impl fmt::Display for Reason {
+    fn fmt<W: Write>(&self, f: &mut fmt::Formatter<W>) -> fmt::Result {
+        f.write_str(match self {
+            Reason::BadOffset => "an offset is at most 65534",
+            Reason::TooManyPorts => "too many ports for one block",
+            Reason::UnknownBlock => "there is no such block",
+            Reason::UnknownPort => "there is no such port",
+            Reason::UnknownOffset => "the port has no such offset",
+            Reason::NoRoom => "no room is left",
+            Reason::UnknownSecondPort => "there is no such second port",
+            Reason::SameSide => "both ends are inputs, or both are outputs",
+            Reason::AlreadyLinked => "this end has its wire",
+            Reason::InputWired => "an input has its wire, and takes one only",
+        })
+    }
 }
 
 // Two ports that are to be linked, and space for the answer. Stays beside that of `sheets`: the sketch rests on no graph.
@@ -48,6 +68,6 @@ pub struct SheetEntry {
     pub answer: Result<(SketchEnd, SketchEnd), Reason>,
 }
 
-// There are more entries than a sheet may have: none was done. Stays beside that of `sheets` for the same reason.
+// There are more entries than a sheet may have: none was done. Stays beside that of `sheets`: below both stand the tables alone, which know no sheet.
 #[derive(Clone, Copy)]
 pub struct TooManyEntries;

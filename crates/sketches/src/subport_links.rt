@@ -15,7 +15,7 @@ use crate::totals::Sketch;
 fn bad_offset(offset: u16) -> bool
     ensures { result ≡ bad_offset offset }
 {
-    65535 <= offset
+    offset == u16::MAX
 }
 
 // Whether one of two ends has an offset of 65,535.
@@ -25,7 +25,7 @@ fn bad_offsets(x: SketchEnd, y: SketchEnd) -> bool
     bad_offset(x.offset) || bad_offset(y.offset)
 }
 
-// The invariant stands in a clause, as in `ports`.
+// The invariant stands in clauses, as in `ports`.
 impl Sketch {
     // An offset as read: 0 on a port that is not split.
     pub(crate) fn offset_read(&self, end: SketchEnd) -> u16
@@ -38,6 +38,14 @@ impl Sketch {
         end.offset
     }
 
+    // What asks for an end, as read.
+    pub(crate) fn end_test(&self, end: SketchEnd) -> EndTest
+        ensures is { result ≡ EndTest.AtEnd end.port (offset_read (plan_of self.now) end.port end.offset) }
+        ensures wf { HeldWf self.now }
+    {
+        EndTest::AtEnd(end.port, self.offset_read(end) as u32)
+    }
+
     // Whether a port is split and has no such offset.
     fn lacks_offset(&self, end: SketchEnd) -> bool
         ensures { result ≡ lacks_offset (plan_of self.now) end.port end.offset }
@@ -47,6 +55,7 @@ impl Sketch {
     }
 
     // One end that is named.
+    #[tactic(auto, using(crate::specs::EndSteps::end_bad, crate::specs::EndSteps::end_unknown, crate::specs::EndSteps::end_lacks, crate::specs::EndSteps::end_fine))]
     pub(crate) fn judge_end(&self, end: SketchEnd) -> Result<(), Reason>
         ensures { result ≡ judge_end (plan_of self.now) end.port end.offset }
     {
@@ -73,8 +82,7 @@ impl Sketch {
     fn end_wired(&self, end: SketchEnd) -> bool
         ensures { result ≡ is_wired (plan_of self.now) end.port end.offset }
     {
-        let read = self.offset_read(end);
-        self.is_wired(EndTest::AtEnd(end.port, read as u32))
+        self.is_wired(self.end_test(end))
     }
 
     fn ends_wired(&self, x: SketchEnd, y: SketchEnd) -> bool
@@ -84,6 +92,7 @@ impl Sketch {
     }
 
     // Two ends that are to be linked.
+    #[tactic(auto, using(crate::specs::EndSteps::ends_bad, crate::specs::EndSteps::ends_unknown, crate::specs::EndSteps::ends_lack, crate::specs::EndSteps::ends_taken, crate::specs::EndSteps::ends_second, crate::specs::EndSteps::ends_same_side, crate::specs::EndSteps::ends_wired, crate::specs::EndSteps::ends_full, crate::specs::EndSteps::ends_fine))]
     fn judge_ends(&self, x: SketchEnd, y: SketchEnd) -> Result<(), Reason>
         ensures { result ≡ judge_ends (plan_of self.now) x.port x.offset y.port y.offset }
     {
@@ -117,6 +126,7 @@ impl Sketch {
     }
 
     // Links two ends.
+    #[tactic(auto, using(crate::specs::EndSteps::ends_sides, crate::specs::EndSteps::ends_room, crate::specs::EndSteps::ends_linked, crate::specs::Held::seen_as, crate::specs::Held::back))]
     pub fn link_subports(
         &mut self,
         x: SketchEnd,

@@ -36,27 +36,20 @@ impl Rows {
     pub(crate) fn newest_left(&self, walk: Walk) -> Option<usize>
         ensures { past result ≡ newest_hit (hits walk.test) self.now.rows walk.low (min walk.high self.now.count) }
     {
-        for i in (walk.low..walk.high.min(self.count)).rev() {
-            if hits(walk.test, self.rows[i]) {
-                return Some(i);
-            }
-        }
-        None
+        (walk.low..walk.high.min(self.count))
+            .rev()
+            .find(|i| hits(walk.test, self.rows[*i]))
     }
 
-    // The oldest. Stays beside `newest_left`: one loop for both would ask at each turn from which end it counts.
+    // The oldest. Stays beside `newest_left`: one search for both would take the places as an iterator, and say of it from which end it goes.
     pub(crate) fn oldest_left(&self, walk: Walk) -> Option<usize>
         ensures { past result ≡ oldest_hit (hits walk.test) self.now.rows walk.low (min walk.high self.now.count - walk.low) }
     {
-        for i in walk.low..walk.high.min(self.count) {
-            if hits(walk.test, self.rows[i]) {
-                return Some(i);
-            }
-        }
-        None
+        (walk.low..walk.high.min(self.count)).find(|i| hits(walk.test, self.rows[*i]))
     }
 
     // Whether a row is hit.
+    #[tactic(auto, using(crate::specs::RowSteps::any_found))]
     pub(crate) fn any(&self, test: Test) -> bool
         ensures { result ≡ is_there_any (filter (hits test) (listed self.now)) }
     {
@@ -64,6 +57,7 @@ impl Rows {
     }
 
     // The newest row that is hit.
+    #[tactic(auto, using(crate::specs::RowSteps::newest_is_none, crate::specs::RowSteps::newest_within, crate::specs::RowSteps::newest_is))]
     pub(crate) fn newest(&self, test: Test) -> Option<Row>
         ensures { result ≡ first (filter (hits test) (listed self.now)) }
     {
@@ -75,16 +69,14 @@ impl Rows {
     pub(crate) fn count_of(&self, test: Test) -> usize
         ensures { result ≡ length (filter (hits test) (listed self.now)) }
     {
-        let mut n: usize = 0;
-        for i in 0..self.count {
-            if hits(test, self.rows[i]) {
-                n += 1;
-            }
-        }
-        n
+        self.rows[..self.count]
+            .iter()
+            .filter(|row| hits(test, **row))
+            .count()
     }
 
     // One row more.
+    #[tactic(auto, using(crate::specs::RowSteps::row_added))]
     pub(crate) fn push(&mut self, row: Row)
         requires { self.old.count < row_slots }
         ensures { listed self.new ≡ row ∷ listed self.old }
@@ -93,7 +85,7 @@ impl Rows {
         self.count += 1;
     }
 
-    // Drops the rows that are hit; the others close up.
+    // Drops the rows that are hit; the others close up. Stays a loop over the places: what is kept is stored further in front.
     pub(crate) fn drop_where(&mut self, test: Test)
         ensures { listed self.new ≡ filter (missed test) (listed self.old) }
     {
@@ -112,26 +104,25 @@ impl Rows {
     pub(crate) fn ports_in_all(&self) -> usize
         ensures { result ≡ ports_in_all (map block_of (listed self.now)) }
     {
-        let mut ports: usize = 0;
-        for i in 0..self.count {
-            ports += ports_of(self.rows[i]);
-        }
-        ports
+        self.rows[..self.count]
+            .iter()
+            .map(|row| ports_of(*row))
+            .sum()
     }
 
-    // The ports of all blocks, if one of them had other counts. Stays beside `ports_in_all`: one loop for both would take the change as a closure,
+    // The ports of all blocks, if one of them had other counts. Stays beside `ports_in_all`: one sum for both would take the change as a closure,
     // and say of it in its contract what `recount` says.
     pub(crate) fn ports_recounted(&self, block: Row) -> usize
         ensures { result ≡ ports_in_all (map (recount block.0 block.1 block.2) (map block_of (listed self.now))) }
     {
-        let mut ports: usize = 0;
-        for i in 0..self.count {
-            ports += ports_of(recounted(self.rows[i], block));
-        }
-        ports
+        self.rows[..self.count]
+            .iter()
+            .map(|row| ports_of(recounted(*row, block)))
+            .sum()
     }
 
-    // Gives a block other counts.
+    // Gives a block other counts. Stays a loop over the places: of a struct with ghost fields no field is lent to be changed.
+    #[tactic(auto, unfolding(crate::specs::Rows::rows_in))]
     pub(crate) fn recount(&mut self, block: Row)
         ensures { map block_of (listed self.new) ≡ map (recount block.0 block.1 block.2) (map block_of (listed self.old)) }
     {

@@ -1,20 +1,32 @@
 // Tests on the rows of a table: one function says whether a row is hit, for every call and every walk.
-ghost use Rattle.std.specs.Prelude.{◌≡◌};
+ghost use Rattle.std.specs.Prelude.{◌≡◌, ◌<◌};
 ghost use Rattle.port_tables.specs.Places.{of_dropped, at_spot, at_end, end_on};
-ghost use Rattle.sketches.specs.Plan.{spot_named};
+ghost use Rattle.sketches.specs.Plan.{spot_named, end_at_place};
+ghost use Rattle.sketches.specs.PlanWf.{most_subports};
 ghost use Rattle.sketches.specs.Rows.{side_of, place_in, wire_of, split_of, end_hits, hits};
 
 use crate::rows::Row;
-use crate::sketch::SketchPort;
+use crate::sketch::{SketchEnd, SketchPort};
 use port_tables::direction::Direction;
 
 // An end as a row has it.
-#[derive(Clone, Copy)]
+#[derive(Clone, Copy, PartialEq, Eq)]
 pub(crate) struct RowEnd {
-    pub block: u32,
-    pub side: Direction,
-    pub position: u32,
+    pub port: SketchPort,
     pub offset: u32,
+}
+
+impl RowEnd {
+    // The end as a call names it.
+    pub(crate) fn named(self) -> SketchEnd
+        requires { self.offset < most_subports }
+        ensures { result ≡ end_at_place (place_in self) }
+    {
+        SketchEnd {
+            port: self.port,
+            offset: self.offset as u16,
+        }
+    }
 }
 
 // What an end may be asked.
@@ -27,7 +39,7 @@ pub enum EndTest {
     AtEnd(SketchPort, u32),
 }
 
-// What a row may be asked.
+// What a row may be asked. Stays an enum: it is data of a cursor, which is Copy.
 #[derive(Clone, Copy)]
 pub enum Test {
     Every,
@@ -60,9 +72,11 @@ fn split_end(row: Row) -> RowEnd
     ensures { place_in result ≡ split_of row }
 {
     RowEnd {
-        block: row.0,
-        side: side_of(row.1),
-        position: row.2,
+        port: SketchPort {
+            block: row.0,
+            side: side_of(row.1),
+            position: row.2,
+        },
         offset: row.3,
     }
 }
@@ -72,9 +86,11 @@ pub(crate) fn out_end(row: Row) -> RowEnd
     ensures { place_in result ≡ (wire_of row).out }
 {
     RowEnd {
-        block: row.0,
-        side: Direction::Outgoing,
-        position: row.1,
+        port: SketchPort {
+            block: row.0,
+            side: Direction::Outgoing,
+            position: row.1,
+        },
         offset: row.2,
     }
 }
@@ -83,53 +99,45 @@ pub(crate) fn in_end(row: Row) -> RowEnd
     ensures { place_in result ≡ (wire_of row).into }
 {
     RowEnd {
-        block: row.3,
-        side: Direction::Incoming,
-        position: row.4,
+        port: SketchPort {
+            block: row.3,
+            side: Direction::Incoming,
+            position: row.4,
+        },
         offset: row.5,
     }
 }
 
-#[tactic(auto, using(port_tables::specs::SameSides::sides_differ), unfolding(port_tables::specs::Places::at_spot))]
+#[tactic(auto, using(crate::specs::RowReads::port_tested))]
 pub(crate) fn at_port(port: SketchPort, end: RowEnd) -> bool
     ensures { result ≡ at_spot (spot_named port) (place_in end) }
 {
-    if end.block != port.block {
-        return false;
-    }
-    let a = end.side;
-    let b = port.side;
-    if a != b {
-        return false;
-    }
-    end.position == port.position
+    end.port == port
 }
 
-#[tactic(auto, unfolding(port_tables::specs::Places::at_end))]
+#[tactic(auto, using(crate::specs::RowReads::end_tested))]
 fn at_end(port: SketchPort, offset: u32, end: RowEnd) -> bool
     ensures { result ≡ at_end (spot_named port) offset (place_in end) }
 {
-    at_port(port, end) && end.offset == offset
+    end == RowEnd { port, offset }
 }
 
 fn of_dropped(block: u32, incoming: u32, outgoing: u32, end: RowEnd) -> bool
     ensures { result ≡ of_dropped block incoming outgoing (place_in end) }
 {
-    if end.block != block {
-        return false;
-    }
-    let side = end.side;
-    match side {
-        Direction::Incoming => incoming <= end.position,
-        Direction::Outgoing => outgoing <= end.position,
-    }
+    let port = end.port;
+    let left = match port.side {
+        Direction::Incoming => incoming,
+        Direction::Outgoing => outgoing,
+    };
+    port.block == block && left <= port.position
 }
 
 pub(crate) fn end_hits(test: EndTest, end: RowEnd) -> bool
     ensures { result ≡ end_hits test (place_in end) }
 {
     match test {
-        EndTest::OfBlock(block) => end.block == block,
+        EndTest::OfBlock(block) => end.port.block == block,
         EndTest::OfDropped(block, incoming, outgoing) => of_dropped(block, incoming, outgoing, end),
         EndTest::AtPort(port) => at_port(port, end),
         EndTest::AtEnd(port, offset) => at_end(port, offset, end),
@@ -161,16 +169,7 @@ fn between(from: u32, to: u32, row: Row) -> bool
 fn neighbour(block: u32, side: Direction, flag: bool, row: Row) -> bool
     ensures { result ≡ hits (Test.Neighbour block side flag) row }
 {
-    if block_on(row, side) != block {
-        return false;
-    }
-    if !flag {
-        return true;
-    }
-    match side {
-        Direction::Incoming => row.0 != block,
-        Direction::Outgoing => true,
-    }
+    block_on(row, side) == block && (!flag || side == Direction::Outgoing || row.0 != block)
 }
 
 pub(crate) fn hits(test: Test, row: Row) -> bool

@@ -29,6 +29,7 @@ impl Model for Sketch {
 
 impl Sketch {
     // An empty sketch that is made for a release.
+    #[tactic(auto, unfolding(crate::specs::Rows::rows_in))]
     pub fn new(release: Release) -> Sketch
         ensures { plan_of result ≡ empty_plan release }
     {

@@ -6,9 +6,8 @@ ghost use Rattle.sketches.specs.Held.{plan_of};
 ghost use Rattle.sketches.specs.SketchWalks.{start_of, whole_walk, wire_held, next_wire, previous_wire, next_block, next_subport, Knows};
 
 use crate::sketch::{Reason, SketchEnd, SketchPort};
-use crate::tests::{EndTest, Test};
+use crate::tests::{EndTest, Test, in_end, out_end};
 use crate::totals::Sketch;
-use port_tables::direction::Direction;
 
 // A wire, its outgoing end first.
 #[derive(Clone, Copy)]
@@ -17,7 +16,7 @@ pub struct SketchWire {
     pub into: SketchEnd,
 }
 
-// The rows that are left of a walk, and the test on them.
+// The rows that are left of a walk, and the test on them. Stay two numbers: a Range is not Copy, and a cursor is.
 #[derive(Clone, Copy)]
 pub struct Walk {
     pub low: usize,
@@ -25,7 +24,7 @@ pub struct Walk {
     pub test: Test,
 }
 
-// Where a walk over subports stands: the port and the offset that come next.
+// Where a walk over subports stands: the port and the offset that come next. Stays beside `SketchEnd`: who calls may give any offset of 32 bits.
 #[derive(Clone, Copy)]
 pub struct SubportWalk {
     pub port: SketchPort,
@@ -86,26 +85,13 @@ impl Sketch {
         let wires = &self.wires;
         let row = wires.rows[i];
         SketchWire {
-            out: SketchEnd {
-                port: SketchPort {
-                    block: row.0,
-                    side: Direction::Outgoing,
-                    position: row.1,
-                },
-                offset: row.2 as u16,
-            },
-            into: SketchEnd {
-                port: SketchPort {
-                    block: row.3,
-                    side: Direction::Incoming,
-                    position: row.4,
-                },
-                offset: row.5 as u16,
-            },
+            out: out_end(row).named(),
+            into: in_end(row).named(),
         }
     }
 
     // The next wire.
+    #[tactic(auto, using(crate::specs::SketchWalks::next_ends, crate::specs::SketchWalks::next_within, crate::specs::SketchWalks::next_gives))]
     pub fn next_wire(&self, walk: Walk) -> Option<(SketchWire, Walk)>
         ensures { result ≡ next_wire self.now.wires self.now.totals.wires walk }
     {
@@ -114,6 +100,7 @@ impl Sketch {
     }
 
     // The next wire from the back. Stays beside `next_wire`: which row, and what is left, is all that either says.
+    #[tactic(auto, using(crate::specs::SketchWalks::previous_ends, crate::specs::SketchWalks::previous_within, crate::specs::SketchWalks::previous_gives))]
     pub fn previous_wire(&self, walk: Walk) -> Option<(SketchWire, Walk)>
         ensures { result ≡ previous_wire self.now.wires self.now.totals.wires walk }
     {
@@ -122,6 +109,7 @@ impl Sketch {
     }
 
     // The next block, by its name.
+    #[tactic(auto, using(crate::specs::SketchWalks::next_within, crate::specs::SketchWalks::block_ends, crate::specs::SketchWalks::block_gives))]
     pub fn next_block(&self, walk: Walk) -> Option<(u32, Walk)>
         ensures { result ≡ next_block self.now.blocks self.now.totals.blocks walk }
     {
@@ -133,51 +121,41 @@ impl Sketch {
     fn offsets_of(&self, port: SketchPort) -> u32
         ensures { Knows (plan_of self.now) port result }
     {
-        let subports = self.subports_of(port);
-        if subports == 0 {
-            return 1;
-        }
-        subports
+        self.subports_of(port).max(1)
     }
 
     // The next subport of a side, by port, then offset.
+    #[tactic(auto, unfolding(crate::specs::SketchWalks::next_subport), using(crate::specs::SketchWalks::subports_on))]
     pub fn next_subport(&self, walk: SubportWalk) -> Option<(SketchEnd, SubportWalk)>
         ensures { result ≡ next_subport (plan_of self.now) walk }
     {
         let port = walk.port;
-        let side = port.side;
-        let ports = self.ports_on_side(port.block, side);
+        let ports = self.ports_on_side(port.block, port.side);
         if ports <= port.position {
             return None;
         }
-        if walk.offset < self.offsets_of(port) {
-            return Some((
-                SketchEnd {
-                    port,
-                    offset: walk.offset as u16,
+        let at = if walk.offset < self.offsets_of(port) {
+            walk
+        } else {
+            SubportWalk {
+                port: SketchPort {
+                    position: port.position + 1,
+                    ..port
                 },
-                SubportWalk {
-                    port,
-                    offset: walk.offset + 1,
-                },
-            ));
-        }
-        if ports <= port.position + 1 {
+                offset: 0,
+            }
+        };
+        if ports <= at.port.position {
             return None;
         }
-        let next = SketchPort {
-            block: port.block,
-            side,
-            position: port.position + 1,
-        };
         Some((
             SketchEnd {
-                port: next,
-                offset: 0,
+                port: at.port,
+                offset: at.offset as u16,
             },
             SubportWalk {
-                port: next,
-                offset: 1,
+                offset: at.offset + 1,
+                ..at
             },
         ))
     }

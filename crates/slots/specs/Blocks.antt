@@ -6,8 +6,11 @@ use Rattle.port_tables.specs.Limits.{node_slots, port_slots, node_ports}
 use Rattle.port_tables.specs.Lists.{range}
 use Rattle.port_tables.specs.Tables.{at, put, head_at}
 use Rattle.portgraph.specs.Lookups.{meta_at}
+use Rattle.port_tables.specs.Entries.{node#}
+use Rattle.port_tables.specs.declared.index.NodeIndex.{NodeIndex}
 use Rattle.port_tables.specs.declared.node_entry.NodeMeta.{NodeMeta}
 use Rattle.portgraph.specs.declared.portgraph.PortGraph.{PortGraph}
+use Rattle.slots.specs.declared.listing.SlotBlock as listed
 
 -- who has a block of slots: a live node, or nobody, and then a free list lists it
 pub data Holder : Type 0 where
@@ -101,3 +104,25 @@ block_numbers b = b.first ∷ b.size ∷ holder_of_block b ∷ []
 
 unfoldable pub slot_numbers : PortGraph → List ℕ
 slot_numbers g = flat_map block_numbers (slot_list g)
+
+-- a block as the code gives it
+abbrev pub node_of : Holder → Option NodeIndex
+node_of (by_node n) = Some (node# n)
+node_of free = None
+
+abbrev pub told : ℕ → ℕ → Option NodeIndex → listed.SlotBlock
+told first size holder = record { first = first; size = size; holder = holder }
+
+abbrev pub block_told : SlotBlock → listed.SlotBlock
+block_told b = told b.first b.size (node_of b.holder)
+
+unfoldable pub slots_told : PortGraph → List listed.SlotBlock
+slots_told g = map block_told (slot_list g)
+
+-- and its numbers again
+abbrev pub node_number : Option NodeIndex → ℕ
+node_number None = 0
+node_number (Some n) = suc n.0
+
+abbrev pub told_numbers : listed.SlotBlock → List ℕ
+told_numbers b = b.first ∷ b.size ∷ node_number b.holder ∷ []

@@ -1,15 +1,11 @@
 -- The code's own forms: blocks read off single tables, and what is laid in two lists.
-use Rattle.std.specs.Prelude.{◌≡◌, ℕ, ◌*◌, replicate}
+use Rattle.std.specs.Prelude.{◌≡◌, ℕ, replicate}
 use mathlib.Core.List.{List, ◌++◌, flat_map, map}
 use Rattle.port_tables.specs.Limits.{node_slots, port_slots, node_ports}
 use Rattle.port_tables.specs.Lists.{range}
 use Rattle.port_tables.specs.Tables.{head_at}
 use Rattle.port_tables.specs.NodeWords.{meta_in}
 use Rattle.slots.specs.Blocks.{free, SlotBlock, slot_block, node_holds, chained, size_of, holder_of_block, laid, walk_blocks}
-
--- the numbers of the longest listing
-abbrev pub list_numbers : ℕ
-list_numbers = 3 * port_slots
 
 unfoldable pub taken_in : List ℕ → List SlotBlock
 taken_in nodes = flat_map (λ n. node_holds n (meta_in nodes n)) (range 0 node_slots)

@@ -33,7 +33,6 @@ use Rattle.files.specs.Layout.{unbytes}
 use Rattle.files.specs.Loading.{build_of, load_answer, load_graph}
 use Rattle.files.specs.LoadTheorems.{load_is_history, refused_load_is_empty}
 use Rattle.files.specs.declared.load.LoadError.{LoadError}
-use Rattle.files.specs.declared.load.LoadError.TheVariants.{BadSums, BadLayout, Refused}
 use Rattle.slots.specs.Blocks.{Holder, by_node, free, slot_block, blocks_of, slot_list}
 use Rattle.slots.specs.SlotClaims.{Cut, cut_of, cuts_of, SlotsAccounted, SlotsListed, OneForOne, HangsOn, AsksOnly, NeverForPorts, FreedSince, empty_room, works_along}
 use Rattle.slots.specs.SlotHistory.{Item, one_call, whole_sheet, one_load, after_item, after_items, in_hand, after_calls}

@@ -1,15 +1,14 @@
 -- Steps of the loops that lay blocks, and of the walk that lists them, over plain values.
-use Rattle.std.specs.Prelude.{◌≡◌, Bool, true, false, ltb, length, replicate, Option, Some, None}
+use Rattle.std.specs.Prelude.{◌≡◌, Bool, true, false, ltb, length, replicate, set, Option, Some, None}
 use Rattle.std.proofs.Math.Path.{refl, sym, ap}
 use Rattle.std.proofs.Common.{◌∙◌, eq-eqb, ne_eqb, ltb-true, ltb-false}
-use mathlib.Core.List.{List, [], ◌∷◌, ◌++◌, flat_map}
-use Prim.Native.Nat.{ℕ, zero, suc, ◌+◌, ◌-◌, ◌*◌, ◌≤◌, ◌<◌}
+use mathlib.Core.List.{List, [], ◌∷◌, ◌++◌, flat_map, map}
+use Prim.Native.Nat.{ℕ, zero, suc, ◌+◌, ◌-◌, ◌≤◌, ◌<◌}
 use native.Mathlib.Omega.{arith}
 use Rattle.std.proofs.Math.Seq.{sets}
 use Rattle.port_tables.specs.Limits.{node_slots, port_slots, free_lists}
 use Rattle.port_tables.specs.Lists.{range}
 use Rattle.port_tables.specs.Tables.{at, put, head_at}
-use Rattle.port_tables.specs.ResizeLinkSteps.{sets_append}
 use Rattle.portgraph.specs.GoodSlots.{zero_is_not_one}
 use Rattle.portgraph.specs.TableLaws.{at_outside}
 use Rattle.portgraph.specs.Lent.{graph_in}
@@ -20,7 +19,9 @@ use Rattle.port_tables.specs.declared.node_entry.NodeMeta.{NodeMeta}
 use Rattle.multiportgraph.specs.WellFormed.{MultiWf}
 use Rattle.multiportgraph.specs.MultiLent.{Totals, multi_in}
 use Rattle.multiportgraph.specs.declared.multiportgraph.MultiPortGraph.{MultiPortGraph}
-use Rattle.slots.specs.Blocks.{free, SlotBlock, slot_block, node_holds, held_blocks, chained, free_of, free_blocks, holder_number, holder_of, size_of, holder_of_block, laid, sizes_laid, holders_laid, walk_blocks, slot_list, slot_numbers, block_numbers}
+use Rattle.slots.specs.Blocks.{Holder, by_node, free, SlotBlock, slot_block, node_holds, held_blocks, chained, free_of, free_blocks, holder_number, holder_of, size_of, holder_of_block, laid, sizes_laid, holders_laid, walk_blocks, slot_list, block_numbers, node_of, told, block_told, slots_told, told_numbers, node_number}
+use Rattle.port_tables.specs.declared.index.NodeIndex.{NodeIndex}
+use Rattle.slots.specs.declared.listing.SlotBlock as listed
 use Rattle.slots.specs.Forms.{list_in, taken_in, list_from, free_in, LaysBoth}
 
 -- Laying.
@@ -158,50 +159,41 @@ laid_inside t s v e some = go (ltb s port_slots) refl
     go false q = absurd (some (e ∙ at_outside t s (ltb-false s port_slots q)))
 
 -- so many blocks are listed, and the rest are left
-pub record Listing (whole rest : List SlotBlock) (l₀ l : List ℕ) (count : ℕ) : Type 0 where
+pub record Listing (whole rest : List SlotBlock) (l₀ l : List listed.SlotBlock) (count : ℕ) : Type 0 where
   pub counted : count + length rest ≡ length whole
-  pub same : sets l (3 * count) (flat_map block_numbers rest) ≡ sets l₀ 0 (flat_map block_numbers whole)
+  pub same : sets l count (map block_told rest) ≡ sets l₀ 0 (map block_told whole)
 
-pub listing_begun : (whole : List SlotBlock) (l : List ℕ) → Listing whole whole l l 0
+pub listing_begun : (whole : List SlotBlock) (l : List listed.SlotBlock) → Listing whole whole l l 0
 listing_begun whole l = record { counted = omega arith; same = refl }
 
-listing_on : {whole rest : List SlotBlock} {l₀ l l' : List ℕ} {count : ℕ} (b : SlotBlock) → Listing whole (b ∷ rest) l₀ l count → l' ≡ sets l (3 * count) (block_numbers b) → Listing whole rest l₀ l' (count + 1)
-unfolding flat_map
+listing_on : {whole rest : List SlotBlock} {l₀ l l' : List listed.SlotBlock} {count : ℕ} (b : SlotBlock) → Listing whole (b ∷ rest) l₀ l count → l' ≡ set l count (block_told b) → Listing whole rest l₀ l' (count + 1)
 listing_on {whole} {rest} {l₀} {l} {l'} {count} b x e =
     let c = x.counted in
-    let p : 3 * (count + 1) ≡ 3 * count + length (block_numbers b) = omega arith in
-    record {
-      counted = omega arith;
-      same = rw (e, p) (sets_append l (3 * count) (block_numbers b) (flat_map block_numbers rest) ∙ x.same);
-    }
+    let p : count + 1 ≡ suc count = omega arith in
+    record { counted = omega arith; same = rw (e, p) x.same }
 
-module _ (sizes holders : List ℕ) {whole : List SlotBlock} {l₀ l : List ℕ} where
-  pub walk_turn : (slot count size holder wide : ℕ) {l' : List ℕ} → Listing whole (walk_blocks sizes holders slot (port_slots - count)) l₀ l count → count < port_slots →
-      size ≡ at sizes slot → (size ≡ 0 → ⊥) → holder ≡ at holders slot → l' ≡ sets l (3 * count) (slot ∷ size ∷ holder ∷ []) → wide ≡ size →
+module _ (sizes holders : List ℕ) {whole : List SlotBlock} {l₀ l : List listed.SlotBlock} where
+  pub walk_turn : (slot count size holder wide : ℕ) (held : Option NodeIndex) {l' : List listed.SlotBlock} → Listing whole (walk_blocks sizes holders slot (port_slots - count)) l₀ l count → count < port_slots →
+      size ≡ at sizes slot → (size ≡ 0 → ⊥) → holder ≡ at holders slot → held ≡ node_of (holder_of holder) → l' ≡ set l count (told slot size held) → wide ≡ size →
       Listing whole (walk_blocks sizes holders (slot + wide) (port_slots - (count + 1))) l₀ l' (count + 1)
   unfolding walk_blocks
-  walk_turn slot count size holder wide {l'} x h e some f g w =
+  walk_turn slot count size holder wide held {l'} x h e some f d g w =
       let n : port_slots - count ≡ suc (port_slots - (count + 1)) = omega arith in
       let nonzero : at sizes slot ≡ 0 → ⊥ = λ z. some (e ∙ z) in
       let on : walk_blocks sizes holders slot (port_slots - count) ≡ slot_block slot (at sizes slot) (holder_of (at holders slot)) ∷ walk_blocks sizes holders (slot + at sizes slot) (port_slots - (count + 1)) =
       ap (walk_blocks sizes holders slot) n ∙ rw (ne_eqb (at sizes slot) 0 nonzero) in
-      let same : l' ≡ sets l (3 * count) (block_numbers (slot_block slot (at sizes slot) (holder_of (at holders slot)))) =
-      g ∙ (λ i. sets l (3 * count) (slot ∷ e i ∷ (f ∙ sym (number_back (at holders slot))) i ∷ [])) in
+      let same : l' ≡ set l count (block_told (slot_block slot (at sizes slot) (holder_of (at holders slot)))) =
+      g ∙ (λ i. set l count (told slot (e i) ((d ∙ ap (λ (k : ℕ). node_of (holder_of k)) f) i))) in
       let next : slot + at sizes slot ≡ slot + wide = ap (λ (k : ℕ). slot + k) (sym (w ∙ e)) in
       listing_on {l = l} {count = count} (slot_block slot (at sizes slot) (holder_of (at holders slot)))
       (rw (sym (on ∙ ap (λ (k : ℕ). slot_block slot (at sizes slot) (holder_of (at holders slot)) ∷ walk_blocks sizes holders k (port_slots - (count + 1))) next)) x) same
-    where
-      number_back : (k : ℕ) → holder_number (holder_of k) ≡ k
-      number_back zero = refl
-      number_back (suc k) = refl
 
-  ended : (count : ℕ) (rest : List SlotBlock) → rest ≡ [] → Listing whole rest l₀ l count → (count ≡ length whole) × (l ≡ sets l₀ 0 (flat_map block_numbers whole))
-  unfolding flat_map
+  ended : (count : ℕ) (rest : List SlotBlock) → rest ≡ [] → Listing whole rest l₀ l count → (count ≡ length whole) × (l ≡ sets l₀ 0 (map block_told whole))
   ended count [] e x = let c = x.counted in (omega arith, x.same)
   ended count (b ∷ rest) e x = absurd (zero_is_not_one (cc))
 
   pub walk_done : (slot count size : ℕ) → Listing whole (walk_blocks sizes holders slot (port_slots - count)) l₀ l count → size ≡ at sizes slot → size ≡ 0 →
-      (count ≡ length whole) × (l ≡ sets l₀ 0 (flat_map block_numbers whole))
+      (count ≡ length whole) × (l ≡ sets l₀ 0 (map block_told whole))
   unfolding walk_blocks
   walk_done slot count size x e z = ended count (walk_blocks sizes holders slot (port_slots - count)) (none (port_slots - count)) x
     where
@@ -210,7 +202,7 @@ module _ (sizes holders : List ℕ) {whole : List SlotBlock} {l₀ l : List ℕ}
       none (suc n) = rw (eq-eqb (at sizes slot) 0 (sym e ∙ z))
 
   pub walk_out : (slot count : ℕ) → Listing whole (walk_blocks sizes holders slot (port_slots - count)) l₀ l count → port_slots ≤ count →
-      (count ≡ length whole) × (l ≡ sets l₀ 0 (flat_map block_numbers whole))
+      (count ≡ length whole) × (l ≡ sets l₀ 0 (map block_told whole))
   unfolding walk_blocks
   walk_out slot count x h =
       let n : port_slots - count ≡ 0 = omega arith in
@@ -245,16 +237,26 @@ laid_all nodes links heads none x y =
     λ i. walk_blocks ((z.sizes_are ∙ ap (laid size_of all) none.0) i) ((z.holders_are ∙ ap (laid holder_of_block all) none.1) i) 0 port_slots
 
 -- the walk over them lists the blocks of the tables
-pub listed_so : (blocks list : List SlotBlock) (l l' : List ℕ) (r : ℕ) → blocks ≡ list → (r ≡ length blocks) × (l' ≡ sets l 0 (flat_map block_numbers blocks)) →
-    (r ≡ length list) × (l' ≡ sets l 0 (flat_map block_numbers list))
-listed_so blocks list l l' r e x = (x.0 ∙ ap length e, x.1 ∙ ap (λ (b : List SlotBlock). sets l 0 (flat_map block_numbers b)) e)
+pub listed_so : (blocks list : List SlotBlock) (l l' : List listed.SlotBlock) (r : ℕ) → blocks ≡ list → (r ≡ length blocks) × (l' ≡ sets l 0 (map block_told blocks)) →
+    (r ≡ length list) × (l' ≡ sets l 0 (map block_told list))
+listed_so blocks list l l' r e x = (x.0 ∙ ap length e, x.1 ∙ ap (λ (b : List SlotBlock). sets l 0 (map block_told b)) e)
 
 -- and those of the graph that the tables are
 pub listed_of : (m : MultiPortGraph) (nodes links owners heads : List ℕ) (marks flags : List Bool) (held : Totals) → multi_in nodes links owners heads marks flags held ≡ m → MultiWf m →
-    (l l' : List ℕ) (r : ℕ) → (r ≡ length (list_in nodes links heads)) × (l' ≡ sets l 0 (flat_map block_numbers (list_in nodes links heads))) →
-    (r ≡ length (slot_list m.graph)) × (l' ≡ sets l 0 (slot_numbers m.graph))
-unfolding slot_numbers
+    (l l' : List listed.SlotBlock) (r : ℕ) → (r ≡ length (list_in nodes links heads)) × (l' ≡ sets l 0 (map block_told (list_in nodes links heads))) →
+    (r ≡ length (slot_list m.graph)) × (l' ≡ sets l 0 (slots_told m.graph))
+unfolding slots_told
 listed_of m nodes links owners heads marks flags held e w l l' r x =
     let long : length (slots_in nodes) ≡ node_slots = ap (λ (k : MultiPortGraph). length k.graph.node_meta) e ∙ w.fine.holds.nodes_long in
     listed_so (list_in nodes links heads) (slot_list m.graph) l l' r
     (listed_in nodes links owners heads held.counts long ∙ ap (λ (k : MultiPortGraph). slot_list k.graph) e) x
+
+-- The blocks that are told have the numbers of the listing.
+pub told_alike : (l : List SlotBlock) → flat_map told_numbers (map block_told l) ≡ flat_map block_numbers l
+unfolding flat_map
+told_alike [] = refl
+told_alike (b ∷ l) = λ i. b.first ∷ b.size ∷ same b.holder i ∷ told_alike l i
+  where
+    same : (h : Holder) → node_number (node_of h) ≡ holder_number h
+    same (by_node n) = refl
+    same free = refl

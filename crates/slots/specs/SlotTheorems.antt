@@ -3,13 +3,16 @@
 --
 -- The graph in hand comes of any list of calls, sheets and loads from the empty graph of a release, refused ones included.
 use Rattle.std.specs.Prelude.{◌≡◌, List, ◌++◌, ℕ}
+use mathlib.Core.List.{flat_map}
 use Rattle.port_tables.specs.Lists.{Member}
 use Rattle.multiportgraph.specs.Graph.{empty_graph}
 use Rattle.multiportgraph.specs.declared.multiportgraph.MultiPortGraph.{MultiPortGraph}
 use Rattle.port_tables.specs.declared.release.Release.{Release}
 use Rattle.theorems.specs.Book.{Call}
 use Rattle.theorems.specs.History.{run}
-use Rattle.slots.specs.Blocks.{Holder, by_node, free, slot_block, blocks_of}
+use Rattle.portgraph.specs.declared.portgraph.PortGraph.{PortGraph}
+use Rattle.slots.specs.Blocks.{Holder, by_node, free, slot_block, blocks_of, slot_list, slot_numbers, slots_told, told_numbers}
+use Rattle.slots.specs.LaySteps.{told_alike}
 use Rattle.slots.specs.SlotClaims.{SlotsAccounted, SlotsListed, OneForOne, Cut, cuts_of, AsksOnly, NeverForPorts, FreedSince, empty_room, works_along}
 use Rattle.slots.specs.SlotHistory.{Item, in_hand, after_calls}
 use Rattle.slots.specs.HistoryLaws as proofs
@@ -22,6 +25,11 @@ every_slot_in_one_block release items = proofs.accounted (in_hand release items)
 -- The listing of `slots` has exactly these blocks, each once, end to end from slot 0 to the used length.
 pub blocks_are_listed : (release : Release) (items : List Item) → SlotsListed (in_hand release items).graph
 blocks_are_listed release items = proofs.listed (in_hand release items) (proofs.in_hand_kept release items)
+
+-- The blocks that `slots` is given have these numbers, three each: first slot, size, and who has it.
+pub blocks_have_numbers : (g : PortGraph) → flat_map told_numbers (slots_told g) ≡ slot_numbers g
+unfolding slots_told slot_numbers
+blocks_have_numbers g = told_alike (slot_list g)
 
 -- A split port has one hidden node, and each hidden node one split port.
 pub one_hidden_for_one_split : (release : Release) (items : List Item) → OneForOne (in_hand release items)

@@ -10,8 +10,8 @@ use port_tables::lent::{NODE_WORDS, meta_in};
 use port_tables::numbers::wide;
 use port_tables::tables::{at, head_at, put};
 
-// The size of each block that is laid, and who has it, at its first slot: 0 for a free one, else one higher than the node. Stay numbers, as the
-// listing has them, and two arrays, since `walk_blocks` and `LaysBoth` speak of two lists.
+// The size of each block that is laid, and who has it, at its first slot: 0 for a free one, else one higher than the node. Stay numbers in two
+// arrays: the tables of `port_tables`, whose `put` and `at` they are laid and read by, are of numbers.
 #[derive(Drop)]
 pub(crate) struct Laid {
     pub(crate) sizes: [u32; PORT_SLOTS],
@@ -67,16 +67,15 @@ impl Laid {
     {
         let mut next = head;
         for _count in 0..PORT_SLOTS {
-            if next == 0 {
+            let Some(first) = next.checked_sub(1) else {
                 return;
-            }
-            let first = next - 1;
+            };
             self.lay_block(first, size, 0);
             next = at(links, wide(first));
         }
     }
 
-    // Lays the blocks of all free lists.
+    // Lays the blocks of all free lists. Over the sizes: they begin with 1, and each is told to its list.
     pub(crate) fn lay_lists<'a>(
         &mut self,
         links: &'a [u32; PORT_SLOTS],

@@ -1,4 +1,5 @@
 -- A port that an accepted resize keeps is split afterwards exactly if it was, with as many subports.
+use Rattle.std.proofs.lemmas.Bool.{cases_eq}
 use Rattle.std.specs.Prelude.{◌≡◌, refl, Bool, true, false, cond, List, ℕ, ◌<◌, Ok}
 use Rattle.std.proofs.Common.{sym, ◌∙◌, ap, subst, ⊎_elim, arith}
 use Rattle.portgraph.specs.Lookups.{num_ports}
@@ -10,7 +11,7 @@ use Rattle.port_tables.specs.declared.release.Release.{Release}
 use Rattle.multiportgraph.specs.Reading.{is_split}
 use Rattle.multiportgraph.specs.WellFormed.{inner#, Fine, Seen}
 use Rattle.multiportgraph.specs.Ends.{port_of_lem, count_of_lem}
-use Rattle.multiportgraph.specs.RecountLaws.{count_new, number_cases}
+use Rattle.multiportgraph.specs.RecountLaws.{count_new}
 use Rattle.multiportgraph.specs.SetLaws.{SetDone, set_counts_law}
 use Rattle.multiportgraph.specs.declared.multiportgraph.MultiPortGraph.{MultiPortGraph}
 use Rattle.theorems.specs.Book as book
@@ -35,7 +36,7 @@ module _ {m : MultiPortGraph} {M : Model} (f : Fine m M) {m' : MultiPortGraph} {
       (λ e.
       let k = seen_live f x v in
       subst (λ (t : Slots). x.pos < count_of t x.side) (k.1.1 ∙ sym (s.others x.node k.0 e k.1).1) v.0)
-      (number_cases x.node n)
+      (cases_eq x.node n)
 
   stays_split : (x : model.InnerPlace) → Seen m M x → (x.node ≡ n → x.pos < new_count i o x.side) → SplitAsBefore m m' x.node x.side x.pos
   stays_split x v h =

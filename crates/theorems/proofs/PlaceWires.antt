@@ -180,7 +180,7 @@ module _ (s : State) {M : Model} (r : Rel s.graph M s.book) where
   links_stand : (c d : NodeLinks) (w : SubportLink) → step_links m c ≡ Some (w, d) → FarStands s w.from w.to w.place
   unfolding node_links
   links_stand c d w e =
-      let i = (member_filter (not_skipped c.skip_from c.skip_to) w _ (links_give m c d w e).0).0 in
+      let i = (member_filter (not_skipped c.skip.from c.skip.to) w _ (links_give m c d w e).0).0 in
       let g = by_sides_member (λ a. side_links m a c.node.0) c.sides w i in
       side_stands c.node.0 (links_block c d w e) g.0 w g.1
 
@@ -200,11 +200,11 @@ first_listed : (l : List SubportLink) (w : SubportLink) (d : Wires) → first_it
 first_listed (v ∷ l) w d e = inl (sym (some_pair e).0)
 first_listed [] w d e = absurd (zero_is_not_one (cc))
 
-from_start : (m : MultiPortGraph) (c : Wires) → c.held ≡ 0 → step_wires m c ≡ first_item (all_wires m)
+from_start : (m : MultiPortGraph) (c : Wires) → c.held.port ≡ 0 → step_wires m c ≡ first_item (all_wires m)
 unfolding step_wires
-from_start m c z = rw (eq-eqb c.held 0 z)
+from_start m c z = rw (eq-eqb c.held.port 0 z)
 
-wire_listed : (release : Release) (calls : List Call) (c d : Wires) (w : SubportLink) (h : ℕ) → c.held ≡ h → step_wires (run release calls).graph c ≡ Some (w, d) → Member w (all_wires (run release calls).graph)
+wire_listed : (release : Release) (calls : List Call) (c d : Wires) (w : SubportLink) (h : ℕ) → c.held.port ≡ h → step_wires (run release calls).graph c ≡ Some (w, d) → Member w (all_wires (run release calls).graph)
 wire_listed release calls c d w zero z e = first_listed (all_wires (run release calls).graph) w d (sym (from_start (run release calls).graph c z) ∙ e)
 wire_listed release calls c d w (suc p) z e =
     let g = (wires_give release calls c d p w z e).3 in
@@ -222,7 +222,7 @@ places_are_wires release calls =
       links_back = λ c d w e. port_stands s r c.port.0 w (port_links_give_back s.graph c d w e).0;
       node_links = links_stand s r;
       connections = connections_stand s r;
-      wires = λ c d w e. wire_stands s r w (wire_listed release calls c d w c.held refl e);
+      wires = λ c d w e. wire_stands s r w (wire_listed release calls c d w c.held.port refl e);
     }
   where
     s : State

@@ -212,20 +212,20 @@ hidden_go_in_order = moved.hidden_go_in_order
 
 -- A step that gives an item: the port held is one of a block, the item is the first of the present listing beyond it and the offset, and
 -- the cursor comes back holding it.
-pub wires_give : (release : Release) (calls : List Call) (c d : Wires) (p : ℕ) (w : SubportLink) → c.held ≡ suc p → step_wires (run release calls).graph c ≡ Some (w, d) →
-    (n : ℕ) × (s : Direction) × (seen (run release calls).graph p ≡ visible n s) × FirstOf (Beyond (run release calls).graph n p c.offset) (all_wires (run release calls).graph) w × (d ≡ holding w)
+pub wires_give : (release : Release) (calls : List Call) (c d : Wires) (p : ℕ) (w : SubportLink) → c.held.port ≡ suc p → step_wires (run release calls).graph c ≡ Some (w, d) →
+    (n : ℕ) × (s : Direction) × (seen (run release calls).graph p ≡ visible n s) × FirstOf (Beyond (run release calls).graph n p c.held.offset) (all_wires (run release calls).graph) w × (d ≡ holding w)
 wires_give = cursor.wires_give
 
 -- A step that ends the walk: the port held is gone or hidden, or no item of the present listing lies beyond it and the offset.
-pub wires_end : (release : Release) (calls : List Call) (c : Wires) (p : ℕ) → c.held ≡ suc p → step_wires (run release calls).graph c ≡ None →
+pub wires_end : (release : Release) (calls : List Call) (c : Wires) (p : ℕ) → c.held.port ≡ suc p → step_wires (run release calls).graph c ≡ None →
     (is_seen (seen (run release calls).graph p) ≡ false)
-    ⊎ ((n : ℕ) × (s : Direction) × (seen (run release calls).graph p ≡ visible n s) × ((w : SubportLink) → Member w (all_wires (run release calls).graph) → Beyond (run release calls).graph n p c.offset w → ⊥))
+    ⊎ ((n : ℕ) × (s : Direction) × (seen (run release calls).graph p ≡ visible n s) × ((w : SubportLink) → Member w (all_wires (run release calls).graph) → Beyond (run release calls).graph n p c.held.offset w → ⊥))
 wires_end = cursor.wires_end
 
 -- From a cursor that holds a port of a block the walk gives exactly the items beyond it, in the order of the listing, and ends.
-pub wires_forward : (release : Release) (calls : List Call) (c : Wires) (p n : ℕ) (s : Direction) (fuel : ℕ) → c.held ≡ suc p → seen (run release calls).graph p ≡ visible n s →
-    length (filter (lies_beyond (run release calls).graph n p c.offset) (all_wires (run release calls).graph)) < fuel →
-    walk_wires (run release calls).graph fuel c ≡ record { items = filter (lies_beyond (run release calls).graph n p c.offset) (all_wires (run release calls).graph); ended = true }
+pub wires_forward : (release : Release) (calls : List Call) (c : Wires) (p n : ℕ) (s : Direction) (fuel : ℕ) → c.held.port ≡ suc p → seen (run release calls).graph p ≡ visible n s →
+    length (filter (lies_beyond (run release calls).graph n p c.held.offset) (all_wires (run release calls).graph)) < fuel →
+    walk_wires (run release calls).graph fuel c ≡ record { items = filter (lies_beyond (run release calls).graph n p c.held.offset) (all_wires (run release calls).graph); ended = true }
 wires_forward = cursor.wires_forward
 
 -- The counts.

@@ -1,4 +1,5 @@
 -- Proofs about tidies in histories.
+use Rattle.std.proofs.lemmas.Bool.{cases_Bool}
 use Rattle.std.specs.Prelude.{◌≡◌, Bool, true, false, cond, ◌⊎◌, leb, Some, Result, Ok, Err}
 use Rattle.std.proofs.Math.Path.{refl, transport}
 use Rattle.std.proofs.Common.{sym, ◌∙◌, ap, subst, inl, inr, ⊎_elim, arith}
@@ -26,7 +27,7 @@ use Rattle.multiportgraph.specs.Cases.{tidy_seen}
 use Rattle.multiportgraph.specs.CaseLaws.{add_cases, tidy_cases}
 use Rattle.multiportgraph.specs.WellFormed.{inner#, Fine, Seen, lift, WireIn, SameBlocks, MultiWf}
 use Rattle.multiportgraph.specs.Ends.{BlockPort, split_has_copy, unsplit_no_copy, outer_of_subport, outer_of_block, lift_place, block_seen, seen_block, ports_walked_lem, count_of_lem}
-use Rattle.multiportgraph.specs.HiddenStays.{true_not_false, true_or_false}
+use Rattle.multiportgraph.specs.HiddenStays.{true_not_false}
 use Rattle.multiportgraph.specs.WalkRule.{same_wires_same_list}
 use Rattle.multiportgraph.specs.Wires.{wires_walked, ports_walked}
 use Rattle.multiportgraph.specs.Space.{Room, room_of, Work, take_node, take_block, give_node, give_block, after_work, after_works, overflows, tidy_works}
@@ -118,14 +119,14 @@ module _ {s : State} {M : Model} (r : Rel s.graph M s.book) (x : model.InnerPlac
       let z : lift c.main l.near.pos ≡ lift x o = sym (outer_of_subport r.fine l.near c.main q c.joined) ∙ l.is in
       unsplit_no_copy r.fine x e l.near.node q (c.joined ∙ ap to (lift_place z)))
       (λ q. let z : 0 ≡ o = ap (λ (v : Place). v.offset) (sym (outer_of_block r.fine l.near q) ∙ l.is) in omega arith)
-      (true_or_false (is_hidden s.graph l.near.node))
+      (cases_Bool (is_hidden s.graph l.near.node))
 
   left_by_wires : TidyLeft s.graph at x.side → LeftByWires s at x.node x.side x.pos
   left_by_wires t =
       record {
         whole = λ e o some w i.
             ⊎_elim (λ h. absurd (only_zero e o some w (r.wires.booked w i) (touches_has_end x o w h))) (λ h. h)
-            (true_or_false (touches (at_end (spot x.node x.side x.pos) o) w));
+            (cases_Bool (touches (at_end (spot x.node x.side x.pos) o) w));
         shared = λ e.
             let h = split_has_copy r.fine x sx e in
             let k = left_linked r.fine x sx h t e in

@@ -216,35 +216,35 @@ module _ {m m' : MultiPortGraph} {M M' : Model} (f : Fine m M) (f' : Fine m' M')
 
   wires_step_same : (c : Wires) → step_wires m' c ≡ step_wires m c
   unfolding step_wires all_wires wires_beyond
-  wires_step_same c = λ i. cond (eqb c.held 0) (first_item (whole i)) (rest i)
+  wires_step_same c = λ i. cond (eqb c.held.port 0) (first_item (whole i)) (rest i)
     where
       whole : all_wires m' ≡ all_wires m
       whole = ap (flat_map (side_links m' Outgoing)) blocks_same ∙ all_same (blocks m) in_blocks
 
-      go : (u v : Port) → seen m (c.held - 1) ≡ u → Alike u v → wires_seen m' (c.held - 1) c.offset v ≡ wires_seen m (c.held - 1) c.offset u
+      go : (u v : Port) → seen m (c.held.port - 1) ≡ u → Alike u v → wires_seen m' (c.held.port - 1) c.held.offset v ≡ wires_seen m (c.held.port - 1) c.held.offset u
       go (visible n d) v e a =
-          let b = block_seen f (c.held - 1) n d e in
+          let b = block_seen f (c.held.port - 1) n d e in
           let s = slot_in_block f.good b.place b.is_seen.0 in
           let t : is_block m n ≡ true = subst (λ (k : ℕ). is_block m k ≡ true) b.node (is_block_lem f b.place.node s.0 (b.is_seen.1, s.1)) in
           let later : flat_map (side_links m' Outgoing) (filter (ltb n) (blocks m')) ≡ flat_map (side_links m Outgoing) (filter (ltb n) (blocks m)) =
           ap (λ (l : List ℕ). flat_map (side_links m' Outgoing) (filter (ltb n) l)) blocks_same
           ∙ all_same (filter (ltb n) (blocks m)) (λ k i. in_blocks k (member_filter (ltb n) k (blocks m) i).0) in
-          ap (wires_seen m' (c.held - 1) c.offset) a ∙ (λ i. first_item (filter (is_beyond (c.held - 1) c.offset) (side_same n t Outgoing i) ++ later i))
+          ap (wires_seen m' (c.held.port - 1) c.held.offset) a ∙ (λ i. first_item (filter (is_beyond (c.held.port - 1) c.held.offset) (side_same n t Outgoing i) ++ later i))
       go dead v e a = none v a
         where
-          none : (v : Port) → is_seen v ≡ false → wires_seen m' (c.held - 1) c.offset v ≡ None
+          none : (v : Port) → is_seen v ≡ false → wires_seen m' (c.held.port - 1) c.held.offset v ≡ None
           none dead e = refl
           none hidden e = refl
           none (visible n d) e = absurd (true_not_false refl e)
       go hidden v e a = none v a
         where
-          none : (v : Port) → is_seen v ≡ false → wires_seen m' (c.held - 1) c.offset v ≡ None
+          none : (v : Port) → is_seen v ≡ false → wires_seen m' (c.held.port - 1) c.held.offset v ≡ None
           none dead e = refl
           none hidden e = refl
           none (visible n d) e = absurd (true_not_false refl e)
 
-      rest : wires_seen m' (c.held - 1) c.offset (seen m' (c.held - 1)) ≡ wires_seen m (c.held - 1) c.offset (seen m (c.held - 1))
-      rest = go (seen m (c.held - 1)) (seen m' (c.held - 1)) refl (seen_alike (c.held - 1))
+      rest : wires_seen m' (c.held.port - 1) c.held.offset (seen m' (c.held.port - 1)) ≡ wires_seen m (c.held.port - 1) c.held.offset (seen m (c.held.port - 1))
+      rest = go (seen m (c.held.port - 1)) (seen m' (c.held.port - 1)) refl (seen_alike (c.held.port - 1))
 
   left_same : (c : PortLinks) → links_left m' c ≡ links_left m c
   unfolding links_left
@@ -269,8 +269,8 @@ module _ {m m' : MultiPortGraph} {M M' : Model} (f : Fine m M) (f' : Fine m' M')
   links_same : (c : NodeLinks) → step_links m' c ≡ step_links m c
   unfolding step_links node_links
   links_same c =
-      at_block c.node.0 c.held _ _ _
-      (λ b. ap (λ (l : List SubportLink). on_first None (links_item c) (filter (link_beyond c.held c.offset) (filter (not_skipped c.skip_from c.skip_to) l))) (sides_same c.node.0 b c.sides))
+      at_block c.node.0 c.held.port _ _ _
+      (λ b. ap (λ (l : List SubportLink). on_first None (links_item c) (filter (link_beyond c.held.port c.held.offset) (filter (not_skipped c.skip.from c.skip.to) l))) (sides_same c.node.0 b c.sides))
 
   -- the block at the far end of a link
   owner_same : (n : ℕ) → is_block m n ≡ true → (d : Direction) (w : SubportLink) → Member w (side_links m d n) → owner_of m'.graph w.to.port.0 ≡ owner_of m.graph w.to.port.0
@@ -285,8 +285,8 @@ module _ {m m' : MultiPortGraph} {M M' : Model} (f : Fine m M) (f' : Fine m' M')
   unfolding step_connections connections
   connections_same c =
       λ i. cond (block_same c.target.0 i)
-      (at_block c.node.0 c.held None _ _
-      (λ b. ap (λ (l : List SubportLink). on_first None (connections_item c) (filter (link_beyond c.held c.offset) l))
+      (at_block c.node.0 c.held.port None _ _
+      (λ b. ap (λ (l : List SubportLink). on_first None (connections_item c) (filter (link_beyond c.held.port c.held.offset) l))
       (ap (filter (λ (w : SubportLink). eqb (owner_of m'.graph w.to.port.0) c.target.0)) (side_same c.node.0 b Outgoing)
       ∙ filter_same (λ (w : SubportLink). eqb (owner_of m'.graph w.to.port.0) c.target.0) (λ (w : SubportLink). eqb (owner_of m.graph w.to.port.0) c.target.0)
       (side_links m Outgoing c.node.0) (λ w j. ap (λ (k : ℕ). eqb k c.target.0) (owner_same c.node.0 b Outgoing w j)))) i)

@@ -120,12 +120,12 @@ module _ {m : MultiPortGraph} {M : Model} (f : Fine m M) where
       block_of : (x : model.InnerPlace) → Seen m M x → (k : NodeMeta) × (M.node x.node ≡ live k)
       block_of x s = let r = slot_in_block f.good x s.0 in (r.0, r.1)
 
-  step_held : (c : Wires) (p n : ℕ) (d : Direction) → c.held ≡ suc p → seen m p ≡ visible n d → step_wires m c ≡ first_item (filter (lies_beyond m n p c.offset) (all_wires m))
+  step_held : (c : Wires) (p n : ℕ) (d : Direction) → c.held.port ≡ suc p → seen m p ≡ visible n d → step_wires m c ≡ first_item (filter (lies_beyond m n p c.held.offset) (all_wires m))
   unfolding step_wires
   step_held c p n d h e =
-      ap (λ (k : ℕ). cond (eqb k 0) (first_item (all_wires m)) (wires_seen m (k - 1) c.offset (seen m (k - 1)))) h
-      ∙ (rw (ne_eqb (suc p) 0 (λ z. omega arith), less p) (ap (wires_seen m p c.offset) e)
-      ∙ ap first_item (left_is n (block_listed p n d e) p c.offset))
+      ap (λ (k : ℕ). cond (eqb k 0) (first_item (all_wires m)) (wires_seen m (k - 1) c.held.offset (seen m (k - 1)))) h
+      ∙ (rw (ne_eqb (suc p) 0 (λ z. omega arith), less p) (ap (wires_seen m p c.held.offset) e)
+      ∙ ap first_item (left_is n (block_listed p n d e) p c.held.offset))
 
 -- The first item that passes a test.
 
@@ -159,16 +159,16 @@ none_passed t (x ∷ l) e v i = go (t x) refl (none_passed t l) e i
 
 -- What a step gives.
 
-module _ {m : MultiPortGraph} {M : Model} (f : Fine m M) (c : Wires) (p : ℕ) (held : c.held ≡ suc p) where
-  gives : (n : ℕ) (s : Direction) → seen m p ≡ visible n s → (w : SubportLink) (d : Wires) → step_wires m c ≡ Some (w, d) → FirstOf (Beyond m n p c.offset) (all_wires m) w × (d ≡ holding w)
+module _ {m : MultiPortGraph} {M : Model} (f : Fine m M) (c : Wires) (p : ℕ) (held : c.held.port ≡ suc p) where
+  gives : (n : ℕ) (s : Direction) → seen m p ≡ visible n s → (w : SubportLink) (d : Wires) → step_wires m c ≡ Some (w, d) → FirstOf (Beyond m n p c.held.offset) (all_wires m) w × (d ≡ holding w)
   gives n s e w d g =
-      let r = first_passed (lies_beyond m n p c.offset) (all_wires m) w d (sym (step_held f c p n s held e) ∙ g) in (
+      let r = first_passed (lies_beyond m n p c.held.offset) (all_wires m) w d (sym (step_held f c p n s held e) ∙ g) in (
         record {
           before = r.0;
           after = r.1;
           whole = r.2;
-          so = lies_so m n p c.offset w r.3;
-          none = λ v i b. let x = r.4 v i in let y = so_lies m n p c.offset v b in zero_is_not_one (cc);
+          so = lies_so m n p c.held.offset w r.3;
+          none = λ v i b. let x = r.4 v i in let y = so_lies m n p c.held.offset v b in zero_is_not_one (cc);
         },
         r.5,
       )
@@ -178,13 +178,13 @@ module _ {m : MultiPortGraph} {M : Model} (f : Fine m M) (c : Wires) (p : ℕ) (
   unfolding step_wires
   item_seen (visible n s) e w d g = (n, s, e)
   item_seen dead e w d g =
-      let z : step_wires m c ≡ None = ap (λ (k : ℕ). cond (eqb k 0) (first_item (all_wires m)) (wires_seen m (k - 1) c.offset (seen m (k - 1)))) held ∙ rw (ne_eqb (suc p) 0 (λ z. omega arith), less p) (ap (wires_seen m p c.offset) e) in
+      let z : step_wires m c ≡ None = ap (λ (k : ℕ). cond (eqb k 0) (first_item (all_wires m)) (wires_seen m (k - 1) c.held.offset (seen m (k - 1)))) held ∙ rw (ne_eqb (suc p) 0 (λ z. omega arith), less p) (ap (wires_seen m p c.held.offset) e) in
       absurd (zero_is_not_one (cc))
   item_seen hidden e w d g =
-      let z : step_wires m c ≡ None = ap (λ (k : ℕ). cond (eqb k 0) (first_item (all_wires m)) (wires_seen m (k - 1) c.offset (seen m (k - 1)))) held ∙ rw (ne_eqb (suc p) 0 (λ z. omega arith), less p) (ap (wires_seen m p c.offset) e) in
+      let z : step_wires m c ≡ None = ap (λ (k : ℕ). cond (eqb k 0) (first_item (all_wires m)) (wires_seen m (k - 1) c.held.offset (seen m (k - 1)))) held ∙ rw (ne_eqb (suc p) 0 (λ z. omega arith), less p) (ap (wires_seen m p c.held.offset) e) in
       absurd (zero_is_not_one (cc))
 
-  ends : (v : Port) → seen m p ≡ v → step_wires m c ≡ None → (is_seen (seen m p) ≡ false) ⊎ ((n : ℕ) × (s : Direction) × (seen m p ≡ visible n s) × ((w : SubportLink) → Member w (all_wires m) → Beyond m n p c.offset w → ⊥))
+  ends : (v : Port) → seen m p ≡ v → step_wires m c ≡ None → (is_seen (seen m p) ≡ false) ⊎ ((n : ℕ) × (s : Direction) × (seen m p ≡ visible n s) × ((w : SubportLink) → Member w (all_wires m) → Beyond m n p c.held.offset w → ⊥))
   ends dead e g = inl (ap is_seen e)
   ends hidden e g = inl (ap is_seen e)
   ends (visible n s) e g =
@@ -193,15 +193,15 @@ module _ {m : MultiPortGraph} {M : Model} (f : Fine m M) (c : Wires) (p : ℕ) (
         s,
         e,
         (λ w i b.
-            let x = none_passed (lies_beyond m n p c.offset) (all_wires m) (sym (step_held f c p n s held e) ∙ g) w i in
-            let y = so_lies m n p c.offset w b in
+            let x = none_passed (lies_beyond m n p c.held.offset) (all_wires m) (sym (step_held f c p n s held e) ∙ g) w i in
+            let y = so_lies m n p c.held.offset w b in
             zero_is_not_one (cc)),
       )
 
 -- A step that gives an item: the port held is one of a block, the item is the first of the present listing beyond it and the offset,
 -- and the cursor comes back holding it.
-pub wires_give : (release : Release) (calls : List Call) (c d : Wires) (p : ℕ) (w : SubportLink) → c.held ≡ suc p → step_wires (run release calls).graph c ≡ Some (w, d) →
-    (n : ℕ) × (s : Direction) × (seen (run release calls).graph p ≡ visible n s) × FirstOf (Beyond (run release calls).graph n p c.offset) (all_wires (run release calls).graph) w × (d ≡ holding w)
+pub wires_give : (release : Release) (calls : List Call) (c d : Wires) (p : ℕ) (w : SubportLink) → c.held.port ≡ suc p → step_wires (run release calls).graph c ≡ Some (w, d) →
+    (n : ℕ) × (s : Direction) × (seen (run release calls).graph p ≡ visible n s) × FirstOf (Beyond (run release calls).graph n p c.held.offset) (all_wires (run release calls).graph) w × (d ≡ holding w)
 wires_give release calls c d p w h g =
     let f = (run_kept release calls).fine in
     let s = item_seen f c p h (seen (run release calls).graph p) refl w d g in
@@ -209,9 +209,9 @@ wires_give release calls c d p w h g =
     (s.0, s.1, s.2, r.0, r.1)
 
 -- A step that ends the walk: the port held is gone or hidden, or no item of the present listing lies beyond it and the offset.
-pub wires_end : (release : Release) (calls : List Call) (c : Wires) (p : ℕ) → c.held ≡ suc p → step_wires (run release calls).graph c ≡ None →
+pub wires_end : (release : Release) (calls : List Call) (c : Wires) (p : ℕ) → c.held.port ≡ suc p → step_wires (run release calls).graph c ≡ None →
     (is_seen (seen (run release calls).graph p) ≡ false)
-    ⊎ ((n : ℕ) × (s : Direction) × (seen (run release calls).graph p ≡ visible n s) × ((w : SubportLink) → Member w (all_wires (run release calls).graph) → Beyond (run release calls).graph n p c.offset w → ⊥))
+    ⊎ ((n : ℕ) × (s : Direction) × (seen (run release calls).graph p ≡ visible n s) × ((w : SubportLink) → Member w (all_wires (run release calls).graph) → Beyond (run release calls).graph n p c.held.offset w → ⊥))
 wires_end release calls c p h g = ends (run_kept release calls).fine c p h (seen (run release calls).graph p) refl g
 
 -- Walks.
@@ -353,22 +353,22 @@ module _ {m : MultiPortGraph} {M : Model} (f : Fine m M) where
       let b = (blocks_list f).only a.0 a.1 in
       ap (seen m) (sym r.2) ∙ (seen_block f (inner# a.0 Outgoing r.0) (r.1, b.1.0) ∙ ap (λ (n : ℕ). visible n Outgoing) (sym (item_block f a.0 w a.2)))
 
-  walks_on : (fuel : ℕ) (l : List SubportLink) (c : Wires) (p n : ℕ) (s : Direction) → c.held ≡ suc p → seen m p ≡ visible n s → filter (lies_beyond m n p c.offset) (all_wires m) ≡ l → length l < fuel →
+  walks_on : (fuel : ℕ) (l : List SubportLink) (c : Wires) (p n : ℕ) (s : Direction) → c.held.port ≡ suc p → seen m p ≡ visible n s → filter (lies_beyond m n p c.held.offset) (all_wires m) ≡ l → length l < fuel →
       walk_wires m fuel c ≡ record { items = l; ended = true }
   unfolding walk_wires
   walks_on zero l c p n s h e k few = absurd (omega arith)
   walks_on (suc fuel) [] c p n s h e k few = ap (walk_by (walk_wires m fuel)) (step_held f c p n s h e ∙ ap first_item k)
   walks_on (suc fuel) (w ∷ r) c p n s h e k few =
-      let i : Member w (all_wires m) = (member_filter (lies_beyond m n p c.offset) w (all_wires m) (subst (Member w) (sym k) (inl refl))).0 in
+      let i : Member w (all_wires m) = (member_filter (lies_beyond m n p c.held.offset) w (all_wires m) (subst (Member w) (sym k) (inl refl))).0 in
       let rest : walk_wires m fuel (holding w) ≡ record { items = r; ended = true } =
-      walks_on fuel r (holding w) w.from.port.0 (block_of_item m w) Outgoing refl (item_is_seen w i) (rest_after m n p c.offset w r (all_wires m) wires_rise k) (omega arith) in
+      walks_on fuel r (holding w) w.from.port.0 (block_of_item m w) Outgoing refl (item_is_seen w i) (rest_after m n p c.held.offset w r (all_wires m) wires_rise k) (omega arith) in
       ap (walk_by (walk_wires m fuel)) (step_held f c p n s h e ∙ ap first_item k) ∙ ap (walked_on w) rest
 
 -- A walk from any cursor that holds a port of a block, with steps enough: exactly the items of the present listing that lie beyond it
 -- and the offset, in the order of the listing, and then the end.
-pub wires_forward : (release : Release) (calls : List Call) (c : Wires) (p n : ℕ) (s : Direction) (fuel : ℕ) → c.held ≡ suc p → seen (run release calls).graph p ≡ visible n s →
-    length (filter (lies_beyond (run release calls).graph n p c.offset) (all_wires (run release calls).graph)) < fuel →
-    walk_wires (run release calls).graph fuel c ≡ record { items = filter (lies_beyond (run release calls).graph n p c.offset) (all_wires (run release calls).graph); ended = true }
+pub wires_forward : (release : Release) (calls : List Call) (c : Wires) (p n : ℕ) (s : Direction) (fuel : ℕ) → c.held.port ≡ suc p → seen (run release calls).graph p ≡ visible n s →
+    length (filter (lies_beyond (run release calls).graph n p c.held.offset) (all_wires (run release calls).graph)) < fuel →
+    walk_wires (run release calls).graph fuel c ≡ record { items = filter (lies_beyond (run release calls).graph n p c.held.offset) (all_wires (run release calls).graph); ended = true }
 wires_forward release calls c p n s fuel h e few = walks_on (run_kept release calls).fine fuel _ c p n s h e refl few
 
 -- the test says what lies beyond

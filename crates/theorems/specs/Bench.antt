@@ -66,8 +66,8 @@ looked m (mark p) = cond (is_split m p) 1 0 ∷ []
 looked m (fan_out p) = count_numbers (port_fan_out m p)
 looked m (block_fan_out n) = count_numbers (node_fan_out m n)
 looked m (moves n i o k) = moves_told m n i o (replicate k 0)
-looked m (wire_beyond p o) = wire_numbers (step_wires m (record { held = suc p; offset = o }))
-looked m (subport_beyond n p o) = step_numbers (step_subports m (record { node = node# n; sides = Both; held = suc p; offset = o }))
+looked m (wire_beyond p o) = wire_numbers (step_wires m (record { held = record { port = suc p; offset = o } }))
+looked m (subport_beyond n p o) = step_numbers (step_subports m (record { node = node# n; sides = Both; held = record { port = suc p; offset = o } }))
 
 abbrev after : MultiPortGraph → Ask → MultiPortGraph
 after m (call c) = (step m c).graph

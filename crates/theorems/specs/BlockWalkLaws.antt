@@ -84,19 +84,19 @@ node_ports_left m c = cond (both_seen m c.node.0 c.held) (filter (leb c.held) (p
 
 unfoldable pub subports_left : MultiPortGraph → NodeSubports → List SubportIndex
 subports_left m c =
-    cond (both_seen m c.node.0 c.held) (filter (subport_beyond c.held c.offset) (subports_of m c.node.0 c.sides)) []
+    cond (both_seen m c.node.0 c.held.port) (filter (subport_beyond c.held.port c.held.offset) (subports_of m c.node.0 c.sides)) []
 
 unfoldable pub node_links_left : MultiPortGraph → NodeLinks → List SubportLink
 node_links_left m c =
-    cond (both_seen m c.node.0 c.held)
-    (filter (link_beyond c.held c.offset) (node_links m c.node.0 c.sides c.skip_from c.skip_to))
+    cond (both_seen m c.node.0 c.held.port)
+    (filter (link_beyond c.held.port c.held.offset) (node_links m c.node.0 c.sides c.skip.from c.skip.to))
     []
 
 -- the links that lead to the neighbours left
 unfoldable pub neighbours_left : MultiPortGraph → Neighbours → List SubportLink
 neighbours_left m c =
-    cond (both_seen m c.node.0 c.held)
-    (filter (link_beyond c.held c.offset) (neighbour_links m c.node.0 c.sides c.ignore_self))
+    cond (both_seen m c.node.0 c.held.port)
+    (filter (link_beyond c.held.port c.held.offset) (neighbour_links m c.node.0 c.sides c.ignore_self))
     []
 
 -- both blocks are still there, and the port held
@@ -105,7 +105,7 @@ both_ends m n k held = cond (is_block m k) (both_seen m n held) false
 
 unfoldable pub connections_left : MultiPortGraph → NodeConnections → List SubportLink
 connections_left m c =
-    cond (both_ends m c.node.0 c.target.0 c.held) (filter (link_beyond c.held c.offset) (connections m c.node.0 c.target.0)) []
+    cond (both_ends m c.node.0 c.target.0 c.held.port) (filter (link_beyond c.held.port c.held.offset) (connections m c.node.0 c.target.0)) []
 
 -- A walk over a list that ascends by port, then offset, while what it holds is still there.
 
@@ -355,16 +355,16 @@ past_is_leb h o p = go (leb h p) refl
 -- Cursors by what they hold.
 
 abbrev subports_cursor : NodeIndex → Sides → ℕ → ℕ → NodeSubports
-subports_cursor n sides h o = record { node = n; sides = sides; held = h; offset = o }
+subports_cursor n sides h o = record { node = n; sides = sides; held = record { port = h; offset = o } }
 
 abbrev links_cursor : NodeIndex → Sides → ℕ → ℕ → ℕ → ℕ → NodeLinks
-links_cursor n sides lo hi h o = record { node = n; sides = sides; skip_from = lo; skip_to = hi; held = h; offset = o }
+links_cursor n sides lo hi h o = record { node = n; sides = sides; skip = record { from = lo; to = hi }; held = record { port = h; offset = o } }
 
 abbrev neighbours_cursor : NodeIndex → Sides → Bool → ℕ → ℕ → Neighbours
-neighbours_cursor n sides flag h o = record { node = n; sides = sides; ignore_self = flag; held = h; offset = o }
+neighbours_cursor n sides flag h o = record { node = n; sides = sides; ignore_self = flag; held = record { port = h; offset = o } }
 
 abbrev connections_cursor : NodeIndex → NodeIndex → ℕ → ℕ → NodeConnections
-connections_cursor n k h o = record { node = n; target = k; held = h; offset = o }
+connections_cursor n k h o = record { node = n; target = k; held = record { port = h; offset = o } }
 
 -- the block that a link leads to
 abbrev pub neighbour_of : MultiPortGraph → SubportLink → ℕ
@@ -432,7 +432,7 @@ module _ {m : MultiPortGraph} (w : MultiWf m) where
 
   pub subports_forward : (c : NodeSubports) (fuel : ℕ) → length (subports_left m c) < fuel → walk (by_subports m) fuel c ≡ whole (subports_left m c)
   unfolding subports_left subport_beyond
-  subports_forward c fuel h = one_front (subports_walk c.node c.sides) fuel c.held c.offset h ∙ ap whole (map_same (subports_left m c))
+  subports_forward c fuel h = one_front (subports_walk c.node c.sides) fuel c.held.port c.held.offset h ∙ ap whole (map_same (subports_left m c))
 
   -- links of a block, under any test
   link_walk : {B C : Type 0} (n : ℕ) (sides : Sides) (t : SubportLink → Bool) (held : ℕ → Bool) (out : SubportLink → B) (cursor : ℕ → ℕ → C) (step : C → Stepped B C) →
@@ -456,7 +456,7 @@ module _ {m : MultiPortGraph} (w : MultiWf m) where
   pub node_links_forward : (c : NodeLinks) (fuel : ℕ) → length (node_links_left m c) < fuel → walk (by_links m) fuel c ≡ whole (node_links_left m c)
   unfolding node_links_left is_beyond
   node_links_forward c fuel h =
-      one_front (node_links_walk c.node c.sides c.skip_from c.skip_to) fuel c.held c.offset h ∙ ap whole (map_same (node_links_left m c))
+      one_front (node_links_walk c.node c.sides c.skip.from c.skip.to) fuel c.held.port c.held.offset h ∙ ap whole (map_same (node_links_left m c))
 
   neighbours_walk : (n : NodeIndex) (sides : Sides) (flag : Bool) → OneEnded link_port link_offset (neighbour_links m n.0 sides flag) (both_seen m n.0) (neighbour_of m) (neighbours_cursor n sides flag) (by_neighbours m)
   unfolding step_neighbours neighbour_links
@@ -466,7 +466,7 @@ module _ {m : MultiPortGraph} (w : MultiWf m) where
 
   pub neighbours_forward : (c : Neighbours) (fuel : ℕ) → length (neighbours_left m c) < fuel → walk (by_neighbours m) fuel c ≡ whole (map (neighbour_of m) (neighbours_left m c))
   unfolding neighbours_left is_beyond
-  neighbours_forward c fuel h = one_front (neighbours_walk c.node c.sides c.ignore_self) fuel c.held c.offset h
+  neighbours_forward c fuel h = one_front (neighbours_walk c.node c.sides c.ignore_self) fuel c.held.port c.held.offset h
 
   connections_walk : (n k : NodeIndex) → OneEnded link_port link_offset (connections m n.0 k.0) (both_ends m n.0 k.0) (λ v. v) (connections_cursor n k) (by_connections m)
   unfolding step_connections connections
@@ -477,7 +477,7 @@ module _ {m : MultiPortGraph} (w : MultiWf m) where
 
   pub connections_forward : (c : NodeConnections) (fuel : ℕ) → length (connections_left m c) < fuel → walk (by_connections m) fuel c ≡ whole (connections_left m c)
   unfolding connections_left is_beyond
-  connections_forward c fuel h = one_front (connections_walk c.node c.target) fuel c.held c.offset h ∙ ap whole (map_same (connections_left m c))
+  connections_forward c fuel h = one_front (connections_walk c.node c.target) fuel c.held.port c.held.offset h ∙ ap whole (map_same (connections_left m c))
 
 -- A start that is not refused leaves the whole listing.
 

@@ -27,7 +27,7 @@ pub record FirstOf (P : SubportLink → Type 0) (l : List SubportLink) (w : Subp
 
 -- the cursor that holds an item
 abbrev pub holding : SubportLink → Wires
-holding w = record { held = suc w.from.port.0; offset = w.from.subport_offset }
+holding w = record { held = record { port = suc w.from.port.0; offset = w.from.subport_offset } }
 
 -- the same as a test
 unfoldable pub lies_beyond : MultiPortGraph → ℕ → ℕ → ℕ → SubportLink → Bool

@@ -16,7 +16,7 @@
 -- The links listed at a port are its wires (ListedLinks); so 18's test is its condition (TakenLaws).
 -- Runs of lists: Runs. The bench wiring, cases A to K, a few resizes, fan-outs, second wires into an input and tidies: Bench; 01's numbers: NumberTable.
 -- Releases: no call looks at the release but for 18 (ReleaseLaws); hidden nodes stay on outputs (ReleaseHidden, ReleaseInputs).
--- Walks: each gives its listing whole, in order, and then the end (WalkStepLaws, BlockWalkLaws: the laws named -whole); by turns from
+-- Walks: each gives its listing whole, in order, and then the end (WalkStepLaws, BlockWalkLaws: the laws named .._whole); by turns from
 -- both ends no item comes twice (nodes_turns, ports_turns, port_links_turns); a cursor whose node or port is gone or hidden ends, and a
 -- step gives only what is listed beyond what its cursor holds (WalkHeldLaws).
 pub mod Pairs

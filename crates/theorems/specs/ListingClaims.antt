@@ -1,4 +1,4 @@
--- The words of `listings-are-wires`: a list of wires that has exactly those of the book for which something holds.
+-- The words of `listings_are_wires_..`: a list of wires that has exactly those of the book for which something holds.
 use Rattle.std.specs.Prelude.{◌≡◌, Bool, true, List, ◌++◌, map, ℕ, ◌≤◌, ◌<◌}
 use Rattle.port_tables.specs.Lists.{Member, Once}
 use Rattle.port_tables.specs.declared.direction.Direction.{Direction}

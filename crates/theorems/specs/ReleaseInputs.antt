@@ -1,5 +1,6 @@
 -- Under release 2 no input is split: every hidden node hangs on an output. A hidden node comes where a linked port is prepared, and a
 -- link that names a linked input is refused before.
+use Rattle.std.proofs.lemmas.Bool.{cases_eq}
 use Rattle.std.specs.Prelude.{◌≡◌, Bool, eqb, ltb, length, Option, Some, None, Result, Ok, Err}
 use Rattle.std.proofs.Math.Path.{refl, ap}
 use Rattle.std.proofs.Common.{sym, ◌∙◌, subst, arith, get_or-set_other, ltb-true}
@@ -28,7 +29,7 @@ use Rattle.multiportgraph.specs.Ends.{BlockPort, Hangs, block_seen, count_of_lem
 use Rattle.multiportgraph.specs.HiddenStays.{true_not_false}
 use Rattle.multiportgraph.specs.SplitLaws.{PreparedEnd}
 use Rattle.multiportgraph.specs.PrepareLaws.{prepare_law}
-use Rattle.multiportgraph.specs.RecountLaws.{SomeRecount, set_recounts, growth#, number_cases}
+use Rattle.multiportgraph.specs.RecountLaws.{SomeRecount, set_recounts, growth#}
 use Rattle.multiportgraph.specs.HiddenNodes.{enough, full, grow, grown_by, grow_under, lowest_free, more, more_incoming, more_outgoing, Prepared, prepare, prepare_under, ready, recounted, reuse, reuse_under, split, split_by, split_graph, split_port, split_under}
 use Rattle.multiportgraph.specs.Tidy.{subports_left, left_incoming, left_outgoing, resized_within, drop_subports, link_directly, tidied}
 use Rattle.multiportgraph.specs.TidyLaws.{DropWithin, within_is, within_set, left_within}
@@ -112,7 +113,7 @@ module _ {m : MultiPortGraph} {M : Model} (f : Fine m M) (on : OnOutputs m) wher
           (λ e.
           count_in_lem r.good r.holds k Incoming ∙ (ap (λ (v : Slots). count_of v Incoming) (ap s.model'.node e ∙ r.there) ∙ (r.ins ∙ (ap (λ (i : ℕ). num_ports m.graph i Incoming) (sym e) ∙ on k h))))
           (λ e. counts_same f.good f.holds r.good r.holds k Incoming (r.others k e) ∙ on k h)
-          (number_cases k c)
+          (cases_eq k c)
 
       go : (t : Result ℕ SetError) → (growth# m c Outgoing).answer ≡ t → grown_by m c Outgoing g' t ≡ ready m' x o → OnOutputs m'
       go (Ok e) q w =
@@ -143,7 +144,7 @@ module _ {m : MultiPortGraph} {M : Model} (f : Fine m M) (on : OnOutputs m) wher
           let was = sym (get_or-set_other m.copy_node c.0 k true false e) ∙ h in
           let r = f.copy k was in
           a.0 k r.meta Incoming r.here ∙ on k was)
-          (number_cases k c.0)
+          (cases_eq k c.0)
 
       go : (t : Result (NodeIndex × PortIndex) AddError) → (add_node m.graph 1 2).answer ≡ t → split_by m p Outgoing g' t ≡ ready m' x o → OnOutputs m'
       go (Ok (c, first)) q w =
@@ -285,7 +286,7 @@ module _ {m : MultiPortGraph} {M : Model} (f : Fine m M) (on : OnOutputs m) wher
           let r = s.is in
           ⊎_elim (λ e. count_in_lem r.good r.holds i Incoming ∙ (ap (λ (v : Slots). count_of v Incoming) (ap s.model'.node e ∙ r.there) ∙ (r.ins ∙ one_in d n out)))
           (λ e. counts_same f.good f.holds r.good r.holds i Incoming (r.others i e) ∙ on i h)
-          (number_cases i c)
+          (cases_eq i c)
 
   tidied_on : (x : model.InnerPlace) → Seen m M x → x.side ≡ Outgoing → is_split m (slot_of M.node x) ≡ true → OnOutputs (tidied m (slot_of M.node x) x.side)
   unfolding tidied

@@ -1,5 +1,6 @@
 -- Removing a block: its ports lose their hidden nodes one by one, then the node itself goes.
 -- Every wire at the block goes, and nothing else changes.
+use Rattle.std.proofs.lemmas.Bool.{cases_Bool}
 use Rattle.std.specs.Prelude.{◌≡◌, refl, Bool, true, false, cond, [], ℕ, zero, suc, ◌+◌, ◌-◌, ◌≤◌, ◌<◌, eqb, ltb, Option, Some, None, Result, Ok, Err}
 use Rattle.std.proofs.Common.{sym, ◌∙◌, ap, subst, inl, ⊎_elim, arith, eq-eqb, ne_eqb, eqb-true}
 use Rattle.std.proofs.lemmas.Bool.{eqb-false}
@@ -21,7 +22,7 @@ use Rattle.multiportgraph.specs.Reading.{is_hidden, is_split}
 use Rattle.multiportgraph.specs.Calls.{drop_block, remove_block}
 use Rattle.multiportgraph.specs.WellFormed.{copy_place, Fine, BlockIs, Seen, outer, WireIn, SameBlocks, Wiring}
 use Rattle.multiportgraph.specs.Ends.{main_seen, outer_of_subport, outer_of_block}
-use Rattle.multiportgraph.specs.HiddenStays.{true_or_false, true_not_false, same_wire, Frame, plain_frame, frame_fine, outer_kept, Alike, wire_kept, kept_wire, hidden_below, split_below}
+use Rattle.multiportgraph.specs.HiddenStays.{true_not_false, same_wire, Frame, plain_frame, frame_fine, outer_kept, Alike, wire_kept, kept_wire, hidden_below, split_below}
 use Rattle.multiportgraph.specs.LinkCutLaws.{touches_neither, touched_not_out, touched_not_into, at_spot_is}
 use Rattle.multiportgraph.specs.CopyLaws.{port_at, removed_holds, CopyGone, unsplit_gone, unsplit_whole}
 use Rattle.multiportgraph.specs.declared.multiportgraph.MultiPortGraph.{MultiPortGraph}
@@ -46,14 +47,14 @@ pub record Passed (m : MultiPortGraph) (M : Model) (m' : MultiPortGraph) (M' : M
   pub unsplit : (s : ℕ) → p ≤ s → s < p + j → is_split m' s ≡ false
 
 not_split : (m m' : MultiPortGraph) (s : ℕ) → ((s : ℕ) → is_split m' s ≡ true → is_split m s ≡ true) → is_split m s ≡ false → is_split m' s ≡ false
-not_split m m' s only n = ⊎_elim (λ t. absurd (true_not_false (only s t) n)) (λ e. e) (true_or_false (is_split m' s))
+not_split m m' s only n = ⊎_elim (λ t. absurd (true_not_false (only s t) n)) (λ e. e) (cases_Bool (is_split m' s))
 
 -- a test that a stronger one implies
 touches_less : (t u : Place → Bool) (w : Wire) → ((v : Place) → t v ≡ true → u v ≡ true) → touches u w ≡ false → touches t w ≡ false
 touches_less t u w less n =
     touches_neither t w
-    (⊎_elim (λ a. absurd (true_not_false (less w.out a) (touched_not_out u w n))) (λ e. e) (true_or_false (t w.out)))
-    (⊎_elim (λ a. absurd (true_not_false (less w.into a) (touched_not_into u w n))) (λ e. e) (true_or_false (t w.into)))
+    (⊎_elim (λ a. absurd (true_not_false (less w.out a) (touched_not_out u w n))) (λ e. e) (cases_Bool (t w.out)))
+    (⊎_elim (λ a. absurd (true_not_false (less w.into a) (touched_not_into u w n))) (λ e. e) (cases_Bool (t w.into)))
 
 passed_one : {m m₁ m₂ : MultiPortGraph} {M M₁ M₂ : Model} {n : ℕ} (x : model.InnerPlace) (p j : ℕ) → x.node ≡ n → slot_of M.node x ≡ p → CopyGone m M x m₁ M₁ → Passed m₁ M₁ m₂ M₂ n (suc p) j → Passed m M m₂ M₂ n p (suc j)
 passed_one {m} {m₁} {m₂} {M} {M₁} {M₂} {n} x p j ex ep g r =
@@ -152,7 +153,7 @@ module _ {m : MultiPortGraph} {M : Model} (f : Fine m M) (n : ℕ) (k : NodeMeta
 
   -- an end is at the block exactly if it is one of its ports
   end_at_node : (z : model.InnerPlace) → of_node n (outer m M z) ≡ eqb z.node n
-  end_at_node z = ⊎_elim sub own (true_or_false (is_hidden m z.node))
+  end_at_node z = ⊎_elim sub own (cases_Bool (is_hidden m z.node))
     where
       own : is_hidden m z.node ≡ false → of_node n (outer m M z) ≡ eqb z.node n
       own h = ap (of_node n) (outer_of_block f z h)

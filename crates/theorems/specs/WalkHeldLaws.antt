@@ -105,27 +105,27 @@ module _ (m : MultiPortGraph) where
   unfolding step_subports
   subports_end c g = rw g
 
-  pub subports_port_end : (c : NodeSubports) (p : ℕ) → c.held ≡ suc p → is_seen (seen m p) ≡ false → step_subports m c ≡ None
+  pub subports_port_end : (c : NodeSubports) (p : ℕ) → c.held.port ≡ suc p → is_seen (seen m p) ≡ false → step_subports m c ≡ None
   unfolding step_subports
-  subports_port_end c p e g = rw (both_gone m c.node.0 c.held p e g)
+  subports_port_end c p e g = rw (both_gone m c.node.0 c.held.port p e g)
 
   pub links_end : (c : NodeLinks) → is_block m c.node.0 ≡ false → step_links m c ≡ None
   unfolding step_links
   links_end c g = rw g
 
-  pub links_port_end : (c : NodeLinks) (p : ℕ) → c.held ≡ suc p → is_seen (seen m p) ≡ false → step_links m c ≡ None
+  pub links_port_end : (c : NodeLinks) (p : ℕ) → c.held.port ≡ suc p → is_seen (seen m p) ≡ false → step_links m c ≡ None
   unfolding step_links
-  links_port_end c p e g = rw (both_gone m c.node.0 c.held p e g)
+  links_port_end c p e g = rw (both_gone m c.node.0 c.held.port p e g)
 
   pub neighbours_end : (c : Neighbours) → is_block m c.node.0 ≡ false → step_neighbours m c ≡ None
   unfolding step_neighbours
   neighbours_end c g = rw g
 
-  pub neighbours_port_end : (c : Neighbours) (p : ℕ) → c.held ≡ suc p → is_seen (seen m p) ≡ false → step_neighbours m c ≡ None
+  pub neighbours_port_end : (c : Neighbours) (p : ℕ) → c.held.port ≡ suc p → is_seen (seen m p) ≡ false → step_neighbours m c ≡ None
   unfolding step_neighbours
-  neighbours_port_end c p e g = rw (both_gone m c.node.0 c.held p e g)
+  neighbours_port_end c p e g = rw (both_gone m c.node.0 c.held.port p e g)
 
-  connections_none : (c : NodeConnections) → both_seen m c.node.0 c.held ≡ false → step_connections m c ≡ None
+  connections_none : (c : NodeConnections) → both_seen m c.node.0 c.held.port ≡ false → step_connections m c ≡ None
   unfolding step_connections
   connections_none c g = rw g (go (is_block m c.target.0))
     where
@@ -140,18 +140,18 @@ module _ (m : MultiPortGraph) where
   unfolding step_connections
   connections_target_end c g = rw g
 
-  pub connections_port_end : (c : NodeConnections) (p : ℕ) → c.held ≡ suc p → is_seen (seen m p) ≡ false → step_connections m c ≡ None
-  connections_port_end c p e g = connections_none c (both_gone m c.node.0 c.held p e g)
+  pub connections_port_end : (c : NodeConnections) (p : ℕ) → c.held.port ≡ suc p → is_seen (seen m p) ≡ false → step_connections m c ≡ None
+  connections_port_end c p e g = connections_none c (both_gone m c.node.0 c.held.port p e g)
 
   -- The list of all wires: the port held is not a block's any more.
 
-  pub wires_end : (c : Wires) (p : ℕ) → c.held ≡ suc p → is_seen (seen m p) ≡ false → step_wires m c ≡ None
+  pub wires_end : (c : Wires) (p : ℕ) → c.held.port ≡ suc p → is_seen (seen m p) ≡ false → step_wires m c ≡ None
   unfolding step_wires
   wires_end c p e g =
-      ap (λ (h : ℕ). cond (eqb h 0) (first_item (all_wires m)) (wires_seen m (h - 1) c.offset (seen m (h - 1)))) e
+      ap (λ (h : ℕ). cond (eqb h 0) (first_item (all_wires m)) (wires_seen m (h - 1) c.held.offset (seen m (h - 1)))) e
       ∙ rw (ne_eqb (suc p) 0 (λ z. omega arith), less p) (go (seen m p) g)
     where
-      go : (v : Port) → is_seen v ≡ false → wires_seen m p c.offset v ≡ None
+      go : (v : Port) → is_seen v ≡ false → wires_seen m p c.held.offset v ≡ None
       go dead q = refl
       go hidden q = refl
       go (visible n d) q = absurd (zero_is_not_one (cc))
@@ -183,7 +183,7 @@ abbrev pub ports_held : NodePorts → ℕ → NodePorts
 ports_held c p = record { node = c.node; sides = c.sides; held = suc p }
 
 abbrev pub subport_held : NodeSubports → SubportIndex → NodeSubports
-subport_held c s = record { node = c.node; sides = c.sides; held = suc s.port.0; offset = s.subport_offset }
+subport_held c s = record { node = c.node; sides = c.sides; held = record { port = suc s.port.0; offset = s.subport_offset } }
 
 module _ (m : MultiPortGraph) where
   block_left : (c : Nodes) (n : ℕ) → Member n (blocks_left m c) → Member n (blocks m) × (between c.front c.back n ≡ true)
@@ -290,58 +290,58 @@ module _ (m : MultiPortGraph) where
       (subst (λ (k : ℕ). Member k (ports_of_node m c.node.0 c.sides)) v b.0, omega arith, sym s ∙ ap (ports_held c) v)
 
   pub subports_give : (c d : NodeSubports) (s : SubportIndex) → step_subports m c ≡ Some (s, d) →
-      Member s (subports_of m c.node.0 c.sides) × (subport_beyond c.held c.offset s ≡ true) × (d ≡ subport_held c s)
+      Member s (subports_of m c.node.0 c.sides) × (subport_beyond c.held.port c.held.offset s ≡ true) × (d ≡ subport_held c s)
   unfolding step_subports
   subports_give c d s e =
       let r =
-      first_found (both_seen m c.node.0 c.held) None (λ t. Some (t, subport_held c t))
-      (filter (subport_beyond c.held c.offset) (subports_of m c.node.0 c.sides)) (Some (s, d)) e (λ z. zero_is_not_one (cc)) in
+      first_found (both_seen m c.node.0 c.held.port) None (λ t. Some (t, subport_held c t))
+      (filter (subport_beyond c.held.port c.held.offset) (subports_of m c.node.0 c.sides)) (Some (s, d)) e (λ z. zero_is_not_one (cc)) in
       let o = some_pair r.2 in
       let v : r.0 ≡ s = o.0 in
       let h : subport_held c r.0 ≡ d = o.1 in
-      let b = member_filter (subport_beyond c.held c.offset) s (subports_of m c.node.0 c.sides) (subst (λ (t : SubportIndex). Member t (filter (subport_beyond c.held c.offset) (subports_of m c.node.0 c.sides))) v r.1) in
+      let b = member_filter (subport_beyond c.held.port c.held.offset) s (subports_of m c.node.0 c.sides) (subst (λ (t : SubportIndex). Member t (filter (subport_beyond c.held.port c.held.offset) (subports_of m c.node.0 c.sides))) v r.1) in
       (b.0, b.1, sym h ∙ ap (subport_held c) v)
 
   pub links_give : (c d : NodeLinks) (w : SubportLink) → step_links m c ≡ Some (w, d) →
-      Member w (node_links m c.node.0 c.sides c.skip_from c.skip_to) × (link_beyond c.held c.offset w ≡ true) × (Some (w, d) ≡ links_item c w)
+      Member w (node_links m c.node.0 c.sides c.skip.from c.skip.to) × (link_beyond c.held.port c.held.offset w ≡ true) × (Some (w, d) ≡ links_item c w)
   unfolding step_links
   links_give c d w e =
       let r =
-      first_found (both_seen m c.node.0 c.held) None (links_item c)
-      (filter (link_beyond c.held c.offset) (node_links m c.node.0 c.sides c.skip_from c.skip_to)) (Some (w, d)) e (λ z. zero_is_not_one (cc)) in
+      first_found (both_seen m c.node.0 c.held.port) None (links_item c)
+      (filter (link_beyond c.held.port c.held.offset) (node_links m c.node.0 c.sides c.skip.from c.skip.to)) (Some (w, d)) e (λ z. zero_is_not_one (cc)) in
       let o = r.2 in
       let v : r.0 ≡ w = (some_pair r.2).0 in
-      let b = member_filter (link_beyond c.held c.offset) w (node_links m c.node.0 c.sides c.skip_from c.skip_to)
-      (subst (λ (x : SubportLink). Member x (filter (link_beyond c.held c.offset) (node_links m c.node.0 c.sides c.skip_from c.skip_to))) v r.1) in
+      let b = member_filter (link_beyond c.held.port c.held.offset) w (node_links m c.node.0 c.sides c.skip.from c.skip.to)
+      (subst (λ (x : SubportLink). Member x (filter (link_beyond c.held.port c.held.offset) (node_links m c.node.0 c.sides c.skip.from c.skip.to))) v r.1) in
       (b.0, b.1, sym o ∙ ap (links_item c) v)
 
   -- the link that leads to the neighbour given
   pub neighbours_give : (c d : Neighbours) (n : NodeIndex) → step_neighbours m c ≡ Some (n, d) →
-      (w : SubportLink) × Member w (neighbour_links m c.node.0 c.sides c.ignore_self) × (link_beyond c.held c.offset w ≡ true) × (Some (n, d) ≡ neighbours_item m c w)
+      (w : SubportLink) × Member w (neighbour_links m c.node.0 c.sides c.ignore_self) × (link_beyond c.held.port c.held.offset w ≡ true) × (Some (n, d) ≡ neighbours_item m c w)
   unfolding step_neighbours
   neighbours_give c d n e =
       let r =
-      first_found (both_seen m c.node.0 c.held) None (neighbours_item m c)
-      (filter (link_beyond c.held c.offset) (neighbour_links m c.node.0 c.sides c.ignore_self)) (Some (n, d)) e (λ z. zero_is_not_one (cc)) in
-      let b = member_filter (link_beyond c.held c.offset) r.0 (neighbour_links m c.node.0 c.sides c.ignore_self) r.1 in
+      first_found (both_seen m c.node.0 c.held.port) None (neighbours_item m c)
+      (filter (link_beyond c.held.port c.held.offset) (neighbour_links m c.node.0 c.sides c.ignore_self)) (Some (n, d)) e (λ z. zero_is_not_one (cc)) in
+      let b = member_filter (link_beyond c.held.port c.held.offset) r.0 (neighbour_links m c.node.0 c.sides c.ignore_self) r.1 in
       (r.0, b.0, b.1, sym r.2)
 
   pub connections_give : (c d : NodeConnections) (w : SubportLink) → step_connections m c ≡ Some (w, d) →
-      Member w (connections m c.node.0 c.target.0) × (link_beyond c.held c.offset w ≡ true) × (Some (w, d) ≡ connections_item c w)
+      Member w (connections m c.node.0 c.target.0) × (link_beyond c.held.port c.held.offset w ≡ true) × (Some (w, d) ≡ connections_item c w)
   unfolding step_connections
   connections_give c d w e = go (is_block m c.target.0) e
     where
       go : (t : Bool) →
-          cond t (cond (both_seen m c.node.0 c.held) (on_first None (connections_item c) (filter (link_beyond c.held c.offset) (connections m c.node.0 c.target.0))) None) None
+          cond t (cond (both_seen m c.node.0 c.held.port) (on_first None (connections_item c) (filter (link_beyond c.held.port c.held.offset) (connections m c.node.0 c.target.0))) None) None
           ≡ Some (w, d) →
-          Member w (connections m c.node.0 c.target.0) × (link_beyond c.held c.offset w ≡ true) × (Some (w, d) ≡ connections_item c w)
+          Member w (connections m c.node.0 c.target.0) × (link_beyond c.held.port c.held.offset w ≡ true) × (Some (w, d) ≡ connections_item c w)
       go true e =
           let r =
-          first_found (both_seen m c.node.0 c.held) None (connections_item c)
-          (filter (link_beyond c.held c.offset) (connections m c.node.0 c.target.0)) (Some (w, d)) e (λ z. zero_is_not_one (cc)) in
+          first_found (both_seen m c.node.0 c.held.port) None (connections_item c)
+          (filter (link_beyond c.held.port c.held.offset) (connections m c.node.0 c.target.0)) (Some (w, d)) e (λ z. zero_is_not_one (cc)) in
           let o = r.2 in
           let v : r.0 ≡ w = (some_pair r.2).0 in
-          let b = member_filter (link_beyond c.held c.offset) w (connections m c.node.0 c.target.0)
-          (subst (λ (x : SubportLink). Member x (filter (link_beyond c.held c.offset) (connections m c.node.0 c.target.0))) v r.1) in
+          let b = member_filter (link_beyond c.held.port c.held.offset) w (connections m c.node.0 c.target.0)
+          (subst (λ (x : SubportLink). Member x (filter (link_beyond c.held.port c.held.offset) (connections m c.node.0 c.target.0))) v r.1) in
           (b.0, b.1, sym o ∙ ap (connections_item c) v)
       go false e = absurd (zero_is_not_one (cc))

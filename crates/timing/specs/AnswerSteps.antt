@@ -194,11 +194,12 @@ not_copied numbers list h = rw (lt-leb (length numbers) (length list) h)
 -- Orders.
 
 module _ (listed : List ℕ) (i : ℕ) (places : List ℕ) where
-  pub mark_turn : {p : ℕ} {places' : List ℕ} → i < length listed / 4 → p ≡ get_or listed (4 * i) 0 → places' ≡ set places p 1 → marked (drop (i + 1) (nodes_of listed)) places' ≡ marked (drop i (nodes_of listed)) places
+  pub mark_turn : {p : ℕ} {places' : List ℕ} → i < length listed / 4 → p ≡ get_or listed (4 * i + 0) 0 → places' ≡ set places p 1 → marked (drop (i + 1) (nodes_of listed)) places' ≡ marked (drop i (nodes_of listed)) places
   unfolding nodes_of marked
   mark_turn {p} {places'} h q e =
       let s : i + 1 ≡ suc i = omega arith in
-      (λ j. marked (drop (s j) (map (node_listed listed) (range 0 (blocks_in listed)))) ((e ∙ ap (λ (x : ℕ). set places x 1) q) j))
+      let z : 4 * i + 0 ≡ 4 * i = omega arith in
+      (λ j. marked (drop (s j) (map (node_listed listed) (range 0 (blocks_in listed)))) ((e ∙ ap (λ (x : ℕ). set places x 1) (q ∙ ap (λ (k : ℕ). get_or listed k 0) z)) j))
       ∙ sym (ap (λ (l : List ℕ). marked l places) (listed_next (node_listed listed) (blocks_in listed) i h))
 
   pub mark_end : length listed / 4 ≤ i → places ≡ marked (drop i (nodes_of listed)) places

@@ -16,6 +16,7 @@
 --   RunOrderLaws     what the table of places says of an order; orders and cycles
 --   TimingLaws       the answers by cases, and the theorems of one graph
 --   TimingHistory    the theorems over every list of calls
+--   Passing                      a listing that is gone through record by record
 --   SettleSteps, AnswerSteps     what the proofs of functions cite
 pub mod TimingTheorems
 pub mod TimingClaims
@@ -34,5 +35,6 @@ pub mod RunOrderLaws
 pub mod TimingLaws
 pub mod TimingHistory
 -- steps
+pub mod Passing
 pub mod SettleSteps
 pub mod AnswerSteps

@@ -9,11 +9,8 @@ use crate::answers::{LongestError, PathListed};
 use crate::path::put_path;
 use crate::settle::Settling;
 use multiportgraph::multiportgraph::MultiPortGraph;
-use port_tables::index::{NODE_SLOTS, NodeIndex, PORT_SLOTS};
+use port_tables::index::{MOST_WIRES, NODE_SLOTS, NodeIndex};
 use port_tables::numbers::wide;
-
-// A wire takes two port slots.
-pub const MOST_WIRES: usize = PORT_SLOTS / 2;
 
 // Blocks are settled along the wires of a graph; answers the largest sum that ends at one. Not inlined: the copies of the graph here then do not lie on the stack while a caller
 // makes the graph.

@@ -7,10 +7,9 @@ ghost use Rattle.timing.specs.RunOrder.{run_order};
 ghost use Rattle.timing.specs.Naming.{marked, named, all_forward};
 ghost use Rattle.timing.specs.Settling.{feeds_listed};
 
-use crate::longest::MOST_WIRES;
-use crate::tables::{at, source_at, target_at};
+use crate::tables::{at, source_of, target_of};
 use multiportgraph::multiportgraph::MultiPortGraph;
-use port_tables::index::NODE_SLOTS;
+use port_tables::index::{MOST_WIRES, NODE_SLOTS};
 use port_tables::numbers::wide;
 use port_tables::tables::store;
 
@@ -18,13 +17,13 @@ use port_tables::tables::store;
 fn mark_blocks(listed: &[u32], places: &mut [u32])
     ensures { places.new ≡ marked (nodes_of listed.now) places.old }
 {
-    for i in 0..listed.len() / 4 {
-        let node = wide(listed[4 * i]);
-        store(places, node, 1);
+    for block in listed.chunks_exact(4) {
+        store(places, wide(block[0]), 1);
     }
 }
 
 // Enters the place of each number named, as long as they name blocks that are not named yet; answers whether all do.
+#[tactic(auto, unfolding(crate::specs::Naming::named), using(crate::specs::AnswerSteps::name_stop, crate::specs::AnswerSteps::name_turn, crate::specs::AnswerSteps::name_end))]
 fn name_all(order: &[u32], places: &mut [u32]) -> bool
     requires { length order.now ≤ node_slots }
     ensures { (result ≡ (named places.old 0 order.now).right) × (places.new ≡ (named places.old 0 order.now).places) }
@@ -39,13 +38,13 @@ fn name_all(order: &[u32], places: &mut [u32]) -> bool
     true
 }
 
-// Whether every wire goes from an earlier to a later place.
+// Whether every wire goes from an earlier to a later place. Stays a loop: of what `all` says over chunks the library has no lemma, and the proof with it did not close.
 fn all_forward<'a>(ends: &'a [u32], places: &'a [u32]) -> bool
     ensures { result ≡ all_forward places.now (feeds_listed ends.now) }
 {
-    for i in 0..ends.len() / 8 {
-        let source = at(places, wide(source_at(ends, i)));
-        let target = at(places, wide(target_at(ends, i)));
+    for wire in ends.chunks_exact(8) {
+        let source = at(places, wide(source_of(wire)));
+        let target = at(places, wide(target_of(wire)));
         if target <= source {
             return false;
         }

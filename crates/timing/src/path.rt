@@ -9,7 +9,7 @@ use port_tables::index::NODE_SLOTS;
 use port_tables::numbers::wide;
 use port_tables::tables::store;
 
-// Lays the path at a list's end, the block named last; answers where it begins.
+// Lays the path at a list's end, the block named last; answers where it begins. Stays a range: of what `iter_mut` lends back to front, a proof keeps the length alone.
 fn path_back<'a>(origin: &'a [u32], block: u32, back: &mut [u32]) -> usize
     requires { length back.old ≡ node_slots }
     ensures { (result < node_slots) × (drop result back.new ≡ path_back origin.now (node_slots - 1) block []) }
@@ -28,6 +28,7 @@ fn path_back<'a>(origin: &'a [u32], block: u32, back: &mut [u32]) -> usize
 }
 
 // Copies numbers to a list's start; one that is too short stays as it is.
+#[tactic(auto, unfolding(multiportgraph::specs::Listed::list_after), using(crate::specs::AnswerSteps::copied, crate::specs::AnswerSteps::not_copied))]
 fn copy_in<'a>(numbers: &'a [u32], list: &mut [u32])
     ensures { list.new ≡ list_after numbers.now list.old }
 {

@@ -6,7 +6,7 @@ ghost use Rattle.port_tables.specs.Lists.{range};
 ghost use Rattle.timing.specs.Settling.{feeds_listed, zeros, waits_of, firsts_of, unsettled, with_order, pushed, push_ready, raised, wire_done, run_done, block_done, Bounded, settled, sum_at};
 
 use crate::answers::LongestError;
-use crate::tables::{at, source_at, target_at, time_at};
+use crate::tables::{at, source_of, target_of, time_at};
 use port_tables::index::NODE_SLOTS;
 use port_tables::numbers::wide;
 use port_tables::tables::store;
@@ -44,8 +44,8 @@ fn count_wires(ends: &[u32], waits: &mut [u32])
     requires { (length ends.now ≤ 8 * port_slots) × (waits.old ≡ zeros) }
     ensures { waits.new ≡ waits_of (feeds_listed ends.now) zeros }
 {
-    for i in 0..ends.len() / 8 {
-        let target = wide(target_at(ends, i));
+    for wire in ends.chunks_exact(8) {
+        let target = wide(target_of(wire));
         let before = at(waits, target);
         store(waits, target, before + 1);
     }
@@ -56,15 +56,16 @@ fn find_firsts(ends: &[u32], firsts: &mut [u32])
     requires { length ends.now ≤ 8 * port_slots }
     ensures { firsts.new ≡ firsts_of (feeds_listed ends.now) 0 firsts.old }
 {
-    for i in (0..ends.len() / 8).rev() {
-        let source = wide(source_at(ends, i));
-        store(firsts, source, i as u32);
+    for (i, wire) in ends.chunks_exact(8).enumerate().rev() {
+        store(firsts, wide(source_of(wire)), i as u32);
     }
 }
 
-// Facts of the block, the sums so far and the listing stay clauses: they are not of every `Settling`.
+// Facts of the block, the sums so far and the listing stay clauses: they are not of every `Settling`. A block and its sum stay two numbers through three private functions: a
+// struct of them, with the fact of the block, would be made once and taken apart in each. So does the listing, a slice whose length matters to two.
 impl Settling {
     // No block is settled.
+    #[tactic(auto, unfolding(crate::specs::Settling::unsettled, crate::specs::Settling::zeros))]
     pub(crate) fn new() -> Settling
         ensures { result ≡ unsettled }
     {
@@ -78,6 +79,7 @@ impl Settling {
     }
 
     // A block is settled, if there is room.
+    #[tactic(auto, unfolding(crate::specs::Settling::pushed), using(crate::specs::SettleSteps::push_room, crate::specs::SettleSteps::push_full))]
     fn push(&mut self, block: u32)
         ensures { self.new ≡ with_order self.old (pushed self.old.order block) }
     {
@@ -87,7 +89,7 @@ impl Settling {
         }
     }
 
-    // The slots into which no wire goes are settled at once.
+    // The slots into which no wire goes are settled at once. Stays a range: the queue grows while the table is read, and both are of the one value.
     fn push_ready(&mut self)
         ensures { self.new ≡ with_order self.old (push_ready self.old.waits (range 0 node_slots) self.old.order) }
     {
@@ -99,6 +101,7 @@ impl Settling {
     }
 
     // The far end of a wire holds the larger sum, and the block that it comes from.
+    #[tactic(auto, unfolding(crate::specs::Settling::raised))]
     fn raise(&mut self, target: usize, block: u32, sum: u32)
         requires { block < node_slots }
         ensures { self.new ≡ raised block sum target self.old }
@@ -124,19 +127,23 @@ impl Settling {
     }
 
     // The wires of a block that stand in a row from a place on are done.
-    fn run_done<'a>(&mut self, ends: &'a [u32], from: usize, block: u32, sum: u32)
+    fn run_done<'a>(&mut self, ends: &'a [u32], from: u32, block: u32, sum: u32)
         requires { block < node_slots }
         ensures { self.new ≡ run_done block sum (drop from (feeds_listed ends.now)) self.old }
     {
-        for i in from..ends.len() / 8 {
-            if source_at(ends, i) != block {
+        let Some(rest) = ends.get(8 * wide(from)..) else {
+            return;
+        };
+        for wire in rest.chunks_exact(8) {
+            if source_of(wire) != block {
                 return;
             }
-            self.wire_done(block, sum, target_at(ends, i));
+            self.wire_done(block, sum, target_of(wire));
         }
     }
 
     // A settled block is done.
+    #[tactic(auto, unfolding(crate::specs::Settling::block_done, crate::specs::Settling::feeds_listed), using(crate::specs::SettleSteps::block_in_lem, crate::specs::SettleSteps::block_out))]
     fn block_done<'a>(&mut self, ends: &'a [u32], firsts: &'a [u32], times: &'a [u16], block: u32)
         requires { Bounded self.old.best node_slots }
         ensures { self.new ≡ block_done (feeds_listed ends.now) firsts.now times.now block self.old }
@@ -144,7 +151,7 @@ impl Settling {
         let b = wide(block);
         if b < NODE_SLOTS {
             let sum = at(&self.best, b) + time_at(times, b);
-            let from = wide(at(firsts, b));
+            let from = at(firsts, b);
             self.run_done(ends, from, block, sum);
         }
     }
@@ -169,6 +176,7 @@ impl Settling {
     }
 
     // The largest sum of times that ends at a block, its own included.
+    #[tactic(auto, unfolding(crate::specs::Settling::sum_at))]
     pub(crate) fn sum_at(&self, times: &[u16], block: usize) -> Result<u32, LongestError>
         requires { Bounded self.now.best node_slots }
         ensures { result ≡ sum_at self.now times.now block }

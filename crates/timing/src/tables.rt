@@ -2,27 +2,27 @@
 ghost use Rattle.std.specs.Prelude.{◌≡◌, ◌+◌, ◌*◌, ◌/◌, ◌<◌, length, get_or};
 
 // A table's entry; 0 outside. Stays a number: the definitions read 0 there, so each caller would turn an Option into it.
-// Stays beside the one of `files`: that is private there, and a public one would be a contract and its proof more for one line.
+// Stays beside the one of `files`: `at` of the tables' crate is of a table with an entry for each port slot, and these lists are of other lengths.
 pub(crate) fn at(table: &[u32], i: usize) -> u32
     ensures { result ≡ get_or table.now i 0 }
 {
     table.get(i).copied().unwrap_or(0)
 }
 
-// The block that a wire comes from.
-pub(crate) fn source_at(ends: &[u32], i: usize) -> u32
-    requires { i < length ends.now / 8 }
-    ensures { result ≡ get_or ends.now (8 * i + 2) 0 }
+// The block that a wire comes from, of the eight numbers of one.
+pub(crate) fn source_of(wire: &[u32]) -> u32
+    requires { length wire.now ≡ 8 }
+    ensures { result ≡ get_or wire.now 2 0 }
 {
-    ends[8 * i + 2]
+    wire[2]
 }
 
 // The block that it goes to.
-pub(crate) fn target_at(ends: &[u32], i: usize) -> u32
-    requires { i < length ends.now / 8 }
-    ensures { result ≡ get_or ends.now (8 * i + 6) 0 }
+pub(crate) fn target_of(wire: &[u32]) -> u32
+    requires { length wire.now ≡ 8 }
+    ensures { result ≡ get_or wire.now 6 0 }
 {
-    ends[8 * i + 6]
+    wire[6]
 }
 
 // The time of a slot.

@@ -1,10 +1,12 @@
 // One command on the graph, and the lines that answer it.
+ghost use Rattle.std.specs.Prelude.{◌<◌};
 ghost use Rattle.multiportgraph.specs.WellFormed.{MultiWf};
+ghost use Rattle.lines.specs.Orders.{most_numbers};
 
 use crate::help::show_help;
 use crate::sheet::link_pairs;
 use crate::slot_list::show_slots;
-use console_parts::cuts::{cut, show_link};
+use console_parts::cuts::{show_cut, show_link};
 use console_parts::fetch::load_from;
 use console_parts::listing::list;
 use console_parts::merging::merge_as;
@@ -13,33 +15,42 @@ use console_parts::replies::{show_answer, show_count};
 use console_parts::resize::resize_block;
 use console_parts::store::save_as;
 use console_parts::tidy::tidy;
-use console_parts::whole::list_whole;
+use console_parts::whole::{list_blocks, list_wires, with_places, with_wire};
+use lines::named::release_of;
 use lines::show::write_bytes;
+use multi_tables::answers::SubportIndex;
 use multiportgraph::multiportgraph::MultiPortGraph;
 use port_tables::index::{NodeIndex, PortIndex};
-use port_tables::release::Release;
-use records::ask::{ask, empty, link_clean};
-use records::requests::Request;
+use records::ask::{answer, cut_port, cut_subport, empty, link_clean};
+use records::requests::Ask;
 use std::fs::Files;
 
-// A request, and so many values of its answer.
-fn request(rt: &impl Print, graph: MultiPortGraph, order: Order, values: usize) -> MultiPortGraph
+// What a request asks, and so many values of its answer.
+fn request(rt: &impl Print, graph: MultiPortGraph, asked: Ask, values: usize) -> MultiPortGraph
     requires { MultiWf graph }
     ensures { MultiWf result }
 {
-    let told = ask(
-        graph,
-        Request {
-            code: order.command as u32,
-            a: order.number(0),
-            b: order.number(1),
-            c: order.number(2),
-            d: order.number(3),
-        },
-    );
-    let answer = told.answer;
-    show_answer(rt, answer, values);
+    let told = answer(graph, asked);
+    show_answer(rt, told.answer, values);
     told.graph
+}
+
+// The node and the port that a number of an order names, and the subport that two of its numbers do.
+fn node(order: Order) -> NodeIndex {
+    NodeIndex(order.number(0))
+}
+
+fn port(order: Order, place: usize) -> PortIndex {
+    PortIndex(order.number(place))
+}
+
+fn subport(order: Order, place: usize) -> SubportIndex
+    requires { place < most_numbers }
+{
+    SubportIndex {
+        port: port(order, place),
+        subport_offset: order.offset(place + 1),
+    }
 }
 
 fn link_cleanly(rt: &impl Print, graph: MultiPortGraph, order: Order) -> MultiPortGraph
@@ -57,10 +68,7 @@ fn begin(rt: &impl Print, order: Order) -> MultiPortGraph
     ensures { MultiWf result }
 {
     write_bytes(rt, b"ok\n");
-    if order.number(0) == 1 {
-        return empty(Release::One);
-    }
-    empty(Release::Two)
+    empty(release_of(order.number(0)))
 }
 
 // A command that changes the graph, or asks for what a request asks; the text is that of its line.
@@ -80,11 +88,16 @@ pub(crate) fn run(
         Command::Sheet => link_pairs(rt, graph, order, text),
         Command::Load => load_from(rt, graph, order, text),
         Command::New => begin(rt, order),
-        Command::Remove => request(rt, graph, order, 0),
-        Command::Add => request(rt, graph, order, 2),
-        Command::Unlink | Command::UnlinkSub => cut(rt, graph, order),
-        Command::Counts => request(rt, graph, order, 3),
-        Command::Link | Command::LinkSub => request(rt, graph, order, 4),
+        Command::Remove => request(rt, graph, Ask::Remove(node(order)), 0),
+        Command::Add => request(rt, graph, Ask::Add(order.number(0), order.number(1)), 2),
+        Command::Unlink => show_cut(rt, cut_port(graph, order.number(0))),
+        Command::UnlinkSub => { show_cut(rt, cut_subport(graph, order.number(0), order.offset(1))) }
+        Command::Counts => request(rt, graph, Ask::Counts, 3),
+        Command::Link => { request(rt, graph, Ask::Link(port(order, 0), port(order, 1)), 4) }
+        Command::LinkSub => {
+            let asked = Ask::LinkSubports(subport(order, 0), subport(order, 2));
+            request(rt, graph, asked, 4)
+        }
         Command::LinkClean => link_cleanly(rt, graph, order),
         Command::Tidy => tidy(rt, graph, order),
         _ => {
@@ -100,15 +113,15 @@ fn look(rt: &(impl Files + Print), graph: MultiPortGraph, order: Order, text: &[
 {
     match order.command {
         Command::SubLink => show_link(rt, graph, order),
-        Command::FanOut => show_count(rt, graph.port_fan_out(PortIndex(order.number(0)))),
-        Command::BlockFanOut => show_count(rt, graph.node_fan_out(NodeIndex(order.number(0)))),
+        Command::FanOut => show_count(rt, graph.port_fan_out(port(order, 0))),
+        Command::BlockFanOut => show_count(rt, graph.node_fan_out(node(order))),
         Command::Save => save_as(rt, graph, order, text),
         Command::Merge => merge_as(rt, order, text),
         Command::Help => show_help(rt),
         Command::Slots => show_slots(rt, graph),
-        Command::Blocks | Command::Wires | Command::Places => {
-            list_whole(rt, graph, order.command);
-        }
+        Command::Blocks => list_blocks(rt, graph),
+        Command::Wires => list_wires(rt, graph, with_wire),
+        Command::Places => list_wires(rt, graph, with_places),
         _ => list(rt, graph, order),
     }
 }

@@ -1,20 +1,17 @@
 // Every block of the used port table, by its first slot: who holds it, or that it is free.
 ghost use Rattle.multiportgraph.specs.WellFormed.{MultiWf};
 
-use console_parts::replies::show_number;
-use lines::show::Line;
+use lines::show::{Line, show_number};
 use multiportgraph::multiportgraph::MultiPortGraph;
-use slots::listing::{LIST_NUMBERS, list_slots};
+use port_tables::index::PORT_SLOTS;
+use slots::listing::{SlotBlock, list_slots};
 
 // A block that is listed: its first slot, its size, and the node that holds it or `free`.
-fn show_block(rt: &impl Print, block: &[u32]) {
-    if let [first, size, holder] = block {
-        let line = Line::of(b" ").number(*first).number(*size);
-        if *holder == 0 {
-            line.with(b" free").write(rt);
-        } else {
-            line.number(*holder - 1).write(rt);
-        }
+fn show_block(rt: &impl Print, block: SlotBlock) {
+    let line = Line::of(b" ").number(block.first).number(block.size);
+    match block.holder {
+        Some(node) => line.number(node.0).write(rt),
+        None => line.with(b" free").write(rt),
     }
 }
 
@@ -22,10 +19,15 @@ fn show_block(rt: &impl Print, block: &[u32]) {
 pub(crate) fn show_slots(rt: &impl Print, graph: MultiPortGraph)
     requires { MultiWf graph }
 {
-    let mut numbers = [0u32; LIST_NUMBERS];
-    let count = list_slots(graph, &mut numbers);
-    for block in numbers.chunks_exact(3).take(count) {
-        show_block(rt, block);
+    let none = SlotBlock {
+        first: 0,
+        size: 0,
+        holder: None,
+    };
+    let mut blocks = [none; PORT_SLOTS];
+    let count = list_slots(graph, &mut blocks);
+    for block in blocks.iter().take(count) {
+        show_block(rt, *block);
     }
     show_number(rt, count as u64);
 }

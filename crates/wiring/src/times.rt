@@ -3,8 +3,8 @@ ghost use Rattle.multiportgraph.specs.WellFormed.{MultiWf};
 
 use crate::commands::run;
 use console_parts::orders::{Command, Order};
-use console_parts::replies::{Reason, show_number, show_refusal, show_refusal_number};
-use lines::show::{Line, write_bytes};
+use console_parts::replies::{Reason, show_refusal, show_refusal_number};
+use lines::show::{Line, show_number, write_bytes};
 use lines::text::{next_word, number_or_zero};
 use multiportgraph::multiportgraph::MultiPortGraph;
 use port_tables::index::{NODE_SLOTS, NodeIndex};
@@ -20,10 +20,10 @@ const NAMED: usize = NODE_SLOTS + 1;
 // The time of a slot, both as the order says.
 fn set_time(rt: &impl Print, times: &mut [u16; NODE_SLOTS], order: Order) {
     let slot = wide(order.number(0));
-    if slot < NODE_SLOTS {
-        if let Ok(time) = u16::try_from(order.number(1)) {
-            times[slot] = time;
-        }
+    if slot < NODE_SLOTS
+        && let Ok(time) = u16::try_from(order.number(1))
+    {
+        times[slot] = time;
     }
     write_bytes(rt, b"ok\n");
 }

@@ -1,23 +1,31 @@
 -- `exports::loaded::put_requests` meets its contract. Invariant: the requests that are left amount to all.
 use native.Mathlib.Omega.{arith}
-use Prim.Native.Nat.{◌+◌, ◌*◌, ◌≤◌}
-use lib.ListN.{length}
-use Rattle.exports.specs.LoadedSteps.{requests_begin, requests_laid, request_room, request_next}
+use mathlib.Core.Path.{sym, ap, ◌∙◌}
+use Prim.Native.Nat.{ℕ, ◌+◌, ◌*◌}
+use Rattle.exports.specs.LoadedSteps.{requests_end, request_fits, request_turn, requests_counted}
 use Rattle.exports.proofs.loaded.put_requests.Goals as goal
-use Rattle.exports.proofs.loaded.put_requests.Goals.{In-loop-k, After-loop-k}
 
--- there is room for one more
-fits : (c : In-loop-k) → c.args.at + 20 * c.loop-k.k + 20 ≤ length c.args.requests.now
-fits c = request_room c.args.code c.args.numbers.now c.loop-k.k c.loop-k.invariant c.loop-k-test.true c.requires
-
-pub loop-k-init : goal.loop-k-init
-loop-k-init c = requests_begin c.args.requests.now c.args.at c.args.code c.args.numbers.now
-
-pub put_request-requires : goal.put_request-requires
-put_request-requires c = let h = fits (goal.at.put_request-requires c).In-loop-k in omega arith
+pub put_words-requires : goal.put_words-requires
+put_words-requires c =
+    let k = c.in-Some.ensures.steps in
+    let i = c.loop-k.invariant in
+    let h = request_fits i.1 _ _ k.0.1.0 (k.0.1.1 ∙ i.0) c.requires in
+    omega (arith, h, k.1)
 
 pub loop-k-preserved : goal.loop-k-preserved
-loop-k-preserved c = request_next c.args.code c.args.numbers.now c.loop-k.k c.loop-k.invariant c.loop-k-test.true c.put_request.ensures
+loop-k-preserved c =
+    let k = c.in-Some.ensures.steps in
+    let i = c.loop-k.invariant in
+    (k.0.0 ∙ i.0, request_turn i.1 _ _ k.0.1.0 (k.0.1.1 ∙ i.0) (ap (λ (n : ℕ). c.args.at + 20 * n) k.1) (omega (arith, k.2)) c.put_words.ensures)
+
+pub overflow_mul-result : goal.overflow_mul-result
+overflow_mul-result c = let e = requests_counted c.args.code c.args.numbers.now in omega (arith, c.requires)
+
+pub overflow_add-result : goal.overflow_add-result
+overflow_add-result c = let e = requests_counted c.args.code c.args.numbers.now in omega (arith, c.requires)
 
 pub returns : goal.returns
-returns c = let e = requests_laid c.args.code c.args.numbers.now c.loop-k.k c.loop-k.invariant c.loop-k-test.false in (omega (arith, e.0), e.1)
+returns c =
+    let k = c.in-None.ensures.steps in
+    let i = c.loop-k.invariant in
+    (sym (ap (λ (n : ℕ). c.args.at + n) (requests_counted c.args.code c.args.numbers.now)), requests_end i.1 (omega (arith, k.0.1.0, i.0)))

@@ -6,10 +6,7 @@ use Rattle.exports.proofs.saved.save_records.Goals as goal
 pub returns-then-requests-ne0 : goal.returns-then-requests-ne0
 returns-then-requests-ne0 c = save_odd c.args.requests.now c.args.file.now c.if-requests-ne0.true
 
-pub save_lent-requires : goal.save_lent-requires
-save_lent-requires c = c.lent_left.ensures.1
-
 pub returns : goal.returns
 returns c =
-    let d = save_done c.args.requests.now c.args.file.now _ _ _ c.if-requests-ne0.false c.lent_left.ensures.0 c.save_lent.ensures in
+    let d = save_done c.args.requests.now c.args.file.now _ _ _ c.if-requests-ne0.false c.run_left.ensures.0 c.save_lent.ensures in
     (c.save_told.ensures ∙ d.0, d.1)

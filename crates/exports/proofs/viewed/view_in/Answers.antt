@@ -38,15 +38,15 @@ overflow_cast-wires c = let h = few (goal.at.overflow_cast-wires c).After-link_c
 pub put_blocks-requires : goal.put_blocks-requires
 unfolding visible_nodes
 put_blocks-requires c =
-    let l = counts_long c.args.view.now c.node_count-blocks.result c.link_count-wires.result c.put_word.ensures c.put_word-2.ensures in
+    let l = counts_long c.args.view.now c.node_count-blocks.result c.link_count-wires.result c.put_words.ensures in
     (c.requires, omega (arith, l, c.if-view-size.false, c.node_count-blocks.ensures))
 
 pub put_wires-requires : goal.put_wires-requires
 unfolding visible_links
 put_wires-requires c =
-    let l = listing_long c.requires.fine c.put_word-2.new.bytes c.put_blocks.ensures ∙ counts_long c.args.view.now c.node_count-blocks.result c.link_count-wires.result c.put_word.ensures c.put_word-2.ensures in
+    let l = listing_long c.requires.fine c.put_words.new.bytes c.put_blocks.ensures ∙ counts_long c.args.view.now c.node_count-blocks.result c.link_count-wires.result c.put_words.ensures in
     (c.requires, omega (arith, l, c.if-view-size.false, c.link_count-wires.ensures))
 
 pub returns : goal.returns
 unfolding visible_nodes visible_links
-returns c = view_done c.requires.fine c.args.view.now _ _ c.node_count-blocks.ensures c.link_count-wires.ensures c.put_word.ensures c.put_word-2.ensures c.put_blocks.ensures c.put_wires.ensures c.if-view-size.false
+returns c = view_done c.requires.fine c.args.view.now _ _ c.node_count-blocks.ensures c.link_count-wires.ensures c.put_words.ensures c.put_blocks.ensures c.put_wires.ensures c.if-view-size.false

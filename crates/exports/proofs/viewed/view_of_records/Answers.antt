@@ -5,8 +5,5 @@ use Rattle.exports.proofs.viewed.view_of_records.Goals as goal
 pub returns-then-requests-ne0 : goal.returns-then-requests-ne0
 returns-then-requests-ne0 c = view_odd c.args.requests.now c.args.view.now c.if-requests-ne0.true
 
-pub view_in-requires : goal.view_in-requires
-view_in-requires c = c.lent_left.ensures.1
-
 pub returns : goal.returns
-returns c = view_whole c.args.requests.now c.args.view.now _ _ _ c.if-requests-ne0.false c.lent_left.ensures.0 c.view_in.ensures
+returns c = view_whole c.args.requests.now c.args.view.now _ _ _ c.if-requests-ne0.false c.run_left.ensures.0 c.view_in.ensures

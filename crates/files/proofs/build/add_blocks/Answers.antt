@@ -6,7 +6,7 @@ pub returns : goal.returns
 returns c = build_ends c.loop-i.invariant (adds_none c.args.file.laid.blocks_are c.loop-i-test.false)
 
 pub returns-in_err-add_block : goal.returns-in_err-add_block
-returns-in_err-add_block c = err_says _ _ _ c.from_residual.ensures.1 (build_stops c.loop-i.invariant (adds_on c.args.file.laid.blocks_are c.loop-i-test.true c.block_place-at.ensures.value) c.in_err-add_block.ensures)
+returns-in_err-add_block c = err_says _ _ _ c.from_residual.ensures.1 (build_stops c.loop-i.invariant (adds_on c.args.file.laid.blocks_are c.loop-i-test.true c.block.ensures) c.in_err-add_block.ensures)
 
 pub loop-i-preserved : goal.loop-i-preserved
-loop-i-preserved c = build_turns c.loop-i.invariant (adds_on c.args.file.laid.blocks_are c.loop-i-test.true c.block_place-at.ensures.value) c.in_ok-add_block.ensures
+loop-i-preserved c = build_turns c.loop-i.invariant (adds_on c.args.file.laid.blocks_are c.loop-i-test.true c.block.ensures) c.in_ok-add_block.ensures

@@ -5,7 +5,4 @@ use Rattle.files.proofs.bytes.field_at.Goals as goal
 
 pub returns : goal.returns
 unfolding field_at
-returns c = record {
-  value = omega (arith, c.from_le_bytes.ensures);
-  upper_bound = c.from_le_bytes.type_inv;
-}
+returns c = omega (arith, c.from_le_bytes.ensures)

@@ -9,7 +9,4 @@ pub returns : goal.returns
 unfolding field_at word_at
 returns c =
     let e : c.args.i + 2 + 1 ≡ c.args.i + 3 = omega arith in
-    record {
-      value = rw e (omega (arith, c.from_le_bytes.ensures));
-      upper_bound = c.from_le_bytes.type_inv;
-    }
+    rw e (omega (arith, c.from_le_bytes.ensures))

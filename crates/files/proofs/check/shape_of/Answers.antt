@@ -1,34 +1,38 @@
--- `files::check::shape_of` meets its contract. Invariant: the units that are left amount with the counts to all. Measure: the bytes that are left.
-use mathlib.Core.Path.{sym, ◌∙◌}
-use Prim.Native.Nat.{◌≤◌}
+-- `files::check::shape_of` meets its contract. Invariant: the units behind those that are left are right, and have the counts so far.
 use native.Mathlib.Omega.{arith}
-use lib.ListN.{length, length-take}
-use Rattle.files.specs.CheckSteps.{shape_begins, shape_broken, shape_blocks, shape_wires, shape_ends, whole_unit, rest_is}
+use mathlib.Core.Path.{refl, sym, ap, ◌∙◌}
+use mathlib.Core.List.{List, ◌++◌}
+use Prim.Native.Nat.{ℕ}
+use Rattle.std.specs.Slice.Exact.{rchunks_exact_remainder, rchunks_exact_rest, rchunks_exact_size}
+use Rattle.files.specs.CheckSteps.{shape_begins, shape_broken, shape_blocks, shape_wires, shape_ends}
 use Rattle.files.proofs.check.shape_of.Goals as goal
-use Rattle.files.proofs.check.shape_of.Goals.{After-shared_slice_known-1, Else-not-unit_right, In-loop-rest, else-field_at-eq1, then-field_at-eq1}
 
--- a unit is there
-fits : (c : In-loop-rest) → 512 ≤ length c.loop-rest.rest.now
-fits c = whole_unit c.loop-rest.rest.now c.loop-rest-test.true c.loop-rest.invariant.whole
-
-pub loop-rest-init : goal.loop-rest-init
-loop-rest-init c = shape_begins c.args.file.now c.requires
-
-pub slice_bounds-unit_right-end : goal.slice_bounds-unit_right-end
-slice_bounds-unit_right-end c = let h = fits (goal.at.slice_bounds-unit_right-end c).In-loop-rest in let n = length-take 512 c.loop-rest.rest.now in omega arith
-
-pub unit_right-requires : goal.unit_right-requires
-unit_right-requires c = let h = fits (goal.at.unit_right-requires c).In-loop-rest in let n = length-take 512 c.loop-rest.rest.now in omega arith
+pub loop-unit-init : goal.loop-unit-init
+loop-unit-init c =
+    let g = c.into_iter-unit-iterator.ensures.into_iter_gives in
+    let r = c.rchunks_exact-unit-items.ensures in
+    (ap rchunks_exact_size g ∙ r.size, shape_begins c.args.file.now _ c.requires (r.parts ∙ ap (λ (l : List ℕ). rchunks_exact_remainder c.rchunks_exact-unit-items.result ++ l) (sym (ap rchunks_exact_rest g))) r.remainder_len)
 
 pub returns-then-not-unit_right : goal.returns-then-not-unit_right
-returns-then-not-unit_right c = shape_broken c.loop-rest.invariant c.loop-rest-test.true c.next_kind-next.ensures (sym c.if-not-unit_right.true ∙ c.unit_right.ensures)
+returns-then-not-unit_right c =
+    let k = c.in-Some.ensures.steps in
+    let i = c.loop-unit.invariant in
+    shape_broken i.1 _ _ k.2.0 (k.2.1 ∙ i.0) (sym c.if-not-unit_right.true ∙ c.unit_right.ensures)
 
-pub loop-rest-preserved : goal.loop-rest-preserved
-loop-rest-preserved c =
-    rw (rest_is c.loop-rest.rest.now) (elim c.if-field_at-eq1.branch [
-      | then-field_at-eq1 w ↦ shape_blocks c.loop-rest.invariant c.loop-rest-test.true c.next_kind-next.ensures (sym c.if-not-unit_right.false ∙ c.unit_right.ensures) c.field_at.ensures.value c.field_at-count.ensures.value w.if-field_at-eq1.true w.blocks-is w.wires-is
-      | else-field_at-eq1 w ↦ shape_wires c.loop-rest.invariant c.loop-rest-test.true c.next_kind-next.ensures (sym c.if-not-unit_right.false ∙ c.unit_right.ensures) c.field_at.ensures.value c.field_at-count.ensures.value w.if-field_at-eq1.false w.blocks-is w.wires-is
-    ])
+pub loop-unit-preserved-then-next-eq1 : goal.loop-unit-preserved-then-next-eq1
+loop-unit-preserved-then-next-eq1 c =
+    let k = c.in-Some.ensures.steps in
+    let i = c.loop-unit.invariant in
+    (k.0 ∙ i.0, shape_blocks i.1 _ _ k.2.0 (k.2.1 ∙ i.0) (sym c.if-not-unit_right.false ∙ c.unit_right.ensures) c.field_at-next.ensures c.field_at-count.ensures c.if-next-eq1.true refl refl)
+
+pub loop-unit-preserved : goal.loop-unit-preserved
+loop-unit-preserved c =
+    let k = c.in-Some.ensures.steps in
+    let i = c.loop-unit.invariant in
+    (k.0 ∙ i.0, shape_wires i.1 _ _ k.2.0 (k.2.1 ∙ i.0) (sym c.if-not-unit_right.false ∙ c.unit_right.ensures) c.field_at-next.ensures c.field_at-count.ensures c.if-next-eq1.false refl refl)
 
 pub returns : goal.returns
-returns c = shape_ends c.loop-rest.invariant c.loop-rest-test.false
+returns c =
+    let k = c.in-None.ensures.steps in
+    let i = c.loop-unit.invariant in
+    shape_ends i.1 (omega (arith, k.2.0, i.0))

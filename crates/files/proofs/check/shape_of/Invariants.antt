@@ -1,10 +1,8 @@
--- `files::check::shape_of` meets its contract. Invariant: the units that are left amount with the counts to all. Measure: the bytes that are left.
-use lib.ListN.{length}
+-- `files::check::shape_of` meets its contract. Invariant: the units behind those that are left are right, and have the counts so far.
+use mathlib.Core.Path.{◌≡◌}
+use Rattle.std.specs.Slice.Exact.{rchunks_exact_rest, rchunks_exact_size}
 use Rattle.files.specs.CheckSteps.{Shaping}
 use Rattle.files.proofs.check.shape_of.Given as goal
 
-abbrev pub invariant-loop-rest : goal.invariant-loop-rest
-invariant-loop-rest l = Shaping l.file l.rest l.blocks l.wires
-
-abbrev pub decreases-loop-rest : goal.decreases-loop-rest
-decreases-loop-rest l = length l.rest
+abbrev pub invariant-loop-unit : goal.invariant-loop-unit
+invariant-loop-unit l = (rchunks_exact_size l.unit-iterator ≡ 512) × Shaping l.file (rchunks_exact_rest l.unit-iterator) l.next l.blocks l.wires

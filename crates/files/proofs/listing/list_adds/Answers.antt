@@ -6,7 +6,7 @@ use Rattle.files.proofs.listing.list_adds.Goals as goal
 
 pub loop-i-preserved : goal.loop-i-preserved
 loop-i-preserved c =
-    add_turn c.args.file.laid.blocks_are c.loop-i.invariant c.loop-i-test.true c.block_place-at.ensures.value c.field_at-incoming.ensures.value c.field_at-outgoing.ensures.value refl c.put_pair.ensures
+    add_turn c.args.file.laid.blocks_are c.loop-i.invariant c.loop-i-test.true c.block-block.ensures refl c.put_pair.ensures
 
 pub returns : goal.returns
 returns c = pairs_end c.loop-i.invariant (omega arith)

@@ -3,9 +3,6 @@ use mathlib.Core.Path.{◌∙◌}
 use Rattle.files.specs.BuildSteps.{load_is_build, load_refused, load_done}
 use Rattle.files.proofs.load.build.Goals as goal
 
-pub build_over-requires : goal.build_over-requires
-build_over-requires c = c.new-graph.ensures.0
-
 pub returns-in-Ok : goal.returns-in-Ok
 returns-in-Ok c = load_done c.args.release c.args.file.bytes.now c.args.file.laid c.in-Ok.ensures c.graph.ensures
 

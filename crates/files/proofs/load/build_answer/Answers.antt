@@ -2,8 +2,5 @@
 use Rattle.files.specs.BuildSteps.{answer_is}
 use Rattle.files.proofs.load.build_answer.Goals as goal
 
-pub build_over-requires : goal.build_over-requires
-build_over-requires c = c.new-graph.ensures.0
-
 pub returns : goal.returns
 returns c = answer_is c.args.release c.args.file.bytes.now c.args.file.laid _ _ c.build_over.ensures

@@ -12,7 +12,7 @@ use Rattle.files.proofs.load.build_over.Goals as goal
 use Rattle.files.proofs.load.build_over.Goals.{In_ok-add_blocks}
 
 -- the blocks fit the table
-few : (c : In_ok-add_blocks) → c.args.file.blocks ≤ node_slots
+few : (c : In_ok-add_blocks) → c.args.file.shape.blocks ≤ node_slots
 few c =
     let h = blocks_fit_table c.args.release (unbytes c.args.file.bytes.now) c.requires c.in_ok-add_blocks.ensures in
     let m = c.args.file.laid.blocks_are.many in

@@ -10,5 +10,5 @@ returns-in_err-one c = first_unlaid c.args.first.now c.args.second.now c.args.bu
 pub returns-in_err-two : goal.returns-in_err-two
 returns-in_err-two c =
     let one = c.in_ok-one.one in
-    let laid = subst (λ b. Laid b one.blocks one.wires) c.in_ok-one.ensures one.laid in
+    let laid = subst (λ b. Laid b one.shape.blocks one.shape.wires) c.in_ok-one.ensures one.laid in
     second_unlaid c.args.first.now c.args.second.now c.args.buffer.now laid c.in_err-two.ensures c.from_residual-in_err-two.ensures.1

@@ -4,7 +4,7 @@ use Rattle.files.specs.MergeSteps.{both_few, first_unloaded, second_unloaded, re
 use Rattle.files.specs.declared.file.File.{File}
 use Rattle.files.proofs.merge.merge_laid.Goals as goal
 
-abbrev both : (first second : File) → BothLaid first.bytes.now second.bytes.now first.blocks first.wires second.blocks second.wires
+abbrev both : (first second : File) → BothLaid first.bytes.now second.bytes.now first.shape.blocks first.shape.wires second.shape.blocks second.shape.wires
 both first second = record { one = first.laid; two = second.laid }
 
 pub returns-in_err-build_answer : goal.returns-in_err-build_answer

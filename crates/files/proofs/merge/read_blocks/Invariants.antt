@@ -1,9 +1,10 @@
--- `files::merge::read_blocks` meets its contract. Invariant: the turns that are left amount to all.
+-- `files::merge::read_blocks` meets its contract. Invariant: the numbers so far are those of the first blocks.
 use mathlib.Core.Path.{◌≡◌}
-use Prim.Native.Nat.{◌-◌}
-use Rattle.files.specs.Forms.{turns}
-use Rattle.files.specs.MergeForms.{block_read_turn}
+use mathlib.Core.List.{map}
+use lib.ListN.{length, take}
+use Rattle.port_tables.specs.Lists.{range}
+use Rattle.files.specs.MergeForms.{block_read}
 use Rattle.files.proofs.merge.read_blocks.Given as goal
 
 abbrev pub invariant-loop-i : goal.invariant-loop-i
-invariant-loop-i l = (turns (block_read_turn l.file.bytes.now) l.i (l.file.blocks - l.i) l.numbers ≡ turns (block_read_turn l.file.bytes.now) 0 l.file.blocks l.initial.numbers)
+invariant-loop-i l = (length l.numbers ≡ l.file.shape.blocks) × (take l.i l.numbers ≡ map (block_read l.file.bytes.now) (range 0 l.i))

@@ -1,51 +1,40 @@
 -- `files::units::put_units` meets its contract. Invariant: laying the units that are left amounts to laying all.
 use native.Mathlib.Omega.{arith}
-use mathlib.Core.Path.{◌≡◌, refl, sym, subst}
-use mathlib.Core.List.{map}
-use Prim.Native.Nat.{ℕ, ◌≤◌, ◌<◌, ◌+◌, ◌*◌}
+use mathlib.Core.Path.{◌≡◌, ap, ◌∙◌}
+use Prim.Native.Nat.{ℕ, ◌≤◌, ◌+◌, ◌*◌}
 use lib.ListN.{length}
-use Rattle.port_tables.specs.Listing.{length_map}
-use Rattle.files.specs.Layout.{units_for}
-use Rattle.files.specs.Forms.{record_of}
-use Rattle.files.specs.UnitSteps.{units_begun, unit_fits_lem, unit_written, units_written}
+use Rattle.std.specs.Prelude.{min}
+use Rattle.std.specs.Iterator.Adapters.{enumerate_source, enumerate_count}
+use Rattle.std.specs.Slice.Iter.{chunks_rest}
+use Rattle.files.specs.Layout.{unit_records}
+use Rattle.files.specs.UnitSteps.{laying_ends, unit_room, unit_turn}
 use Rattle.files.proofs.units.put_units.Goals as goal
-use Rattle.files.proofs.units.put_units.Goals.{In-loop-i}
+use Rattle.files.proofs.units.put_units.Goals.{In-Some}
 
--- a record is left, and there is room for its unit
-below : (c : In-loop-i) → 63 * c.loop-i.i < length (map record_of c.args.records.now)
-below c = let n = length_map record_of c.args.records.now in omega (arith, n, c.loop-i-test.true)
+-- the part is a unit's, or all that is left
+part_long : (c : In-Some) → length c.in-Some.part.now ≡ min unit_records (length (chunks_rest (enumerate_source c.loop-i.i-iterator)))
+part_long c =
+    let k = c.in-Some.ensures.steps in
+    k.0.1.1 ∙ ap (λ (n : ℕ). min n (length (chunks_rest (enumerate_source c.loop-i.i-iterator)))) c.loop-i.invariant.0
 
-fits : (c : In-loop-i) → c.args.at + 512 * c.loop-i.i + 512 ≤ length c.loop-i.bytes
-fits c =
-    unit_fits_lem c.args.kind (map record_of c.args.records.now) c.loop-i.invariant (below c)
-    (subst (λ (k : ℕ). c.args.at + 512 * units_for k ≤ length c.args.bytes.now) (sym (length_map record_of c.args.records.now)) c.requires)
-
-pub loop-i-init : goal.loop-i-init
-loop-i-init c =
-    let e : c.args.at + 512 * 0 ≡ c.args.at = omega arith in
-    rw e (units_begun c.args.kind (map record_of c.args.records.now) _ _)
-
-pub overflow_add-at : goal.overflow_add-at
-overflow_add-at c = let p = fits (goal.at.overflow_add-at c).In-loop-i in omega (arith, p, c.loop-i.invariant.long)
+-- there is room for its unit
+fits : (c : In-Some) → c.args.at + 512 * enumerate_count c.loop-i.i-iterator + 512 ≤ length c.loop-i.bytes
+fits c = let k = c.in-Some.ensures.steps in unit_room c.args.kind c.loop-i.invariant.1 _ _ k.0.1.2 k.0.1.0 (part_long c) c.requires
 
 pub put_unit-requires : goal.put_unit-requires
 put_unit-requires c =
-    let p = fits (goal.at.put_unit-requires c).In-loop-i in
-    (p, omega (arith, c.loop-i-test.true))
+    let s = (goal.at.put_unit-requires c).In-Some in
+    let f = fits s in
+    let p = part_long s in
+    (omega (arith, f, c.in-Some.ensures.steps.1), omega (arith, p))
 
 pub loop-i-preserved : goal.loop-i-preserved
 loop-i-preserved c =
-    let e : c.args.at + 512 * (c.loop-i.i + 1) ≡ c.args.at + 512 * c.loop-i.i + 512 = omega arith in
-    let f : 63 * (c.loop-i.i + 1) ≡ 63 * c.loop-i.i + 63 = omega arith in
-    rw (e, f) (unit_written c.args.kind (map record_of c.args.records.now) c.loop-i.invariant (below (goal.at.loop-i-preserved c).In-loop-i) c.put_unit.ensures)
-
-pub overflow_add-result : goal.overflow_add-result
-unfolding units_for
-overflow_add-result c = omega (arith, c.requires)
+    let k = c.in-Some.ensures.steps in
+    let i = c.loop-i.invariant in
+    (k.0.0 ∙ i.0, unit_turn c.args.kind i.1 _ _ k.0.1.2 k.0.1.0 (part_long (goal.at.loop-i-preserved c).In-Some) (ap (λ (n : ℕ). c.args.at + 512 * n) k.1) (omega (arith, k.2)) c.put_unit.ensures)
 
 pub returns : goal.returns
-unfolding units_for
 returns c =
-    let n = length_map record_of c.args.records.now in
-    let r = units_written c.args.kind (map record_of c.args.records.now) c.loop-i.invariant (omega (arith, n, c.loop-i-test.false)) in
-    (refl, r.1)
+    let k = c.in-None.ensures.steps in
+    (ap (λ (n : ℕ). c.args.at + 512 * n) c.units_for.ensures, laying_ends c.args.kind c.loop-i.invariant.1 k.0.1.0)

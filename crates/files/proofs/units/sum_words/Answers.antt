@@ -1,17 +1,17 @@
--- `files::units::sum_words` meets its contract. Invariant: the sum of the words so far, and how large it may be.
+-- `files::units::sum_words` meets its contract. Invariant: the sum so far, with the words that are left.
 use native.Mathlib.Omega.{arith}
-use mathlib.Core.Path.{refl}
-use Prim.Native.Nat.{◌+◌, ◌*◌}
-use Rattle.portgraph.specs.Model.{total}
-use Rattle.files.specs.Layout.{word_at}
-use Rattle.files.specs.UnitSteps.{total_next}
+use mathlib.Core.Path.{◌∙◌}
+use Rattle.files.specs.UnitSteps.{adding_on, adding_ends}
 use Rattle.files.proofs.units.sum_words.Goals as goal
 
-pub loop-i-init : goal.loop-i-init
-unfolding total
-loop-i-init c = (refl, omega arith)
+pub loop-word-preserved : goal.loop-word-preserved
+loop-word-preserved c =
+    let k = c.in-Some.ensures.steps in
+    let i = c.loop-word.invariant in
+    (k.0 ∙ i.0, adding_on i.1 _ _ k.1.0 (k.1.1 ∙ i.0) c.word_at.ensures c.word_at.type_inv)
 
-pub loop-i-preserved : goal.loop-i-preserved
-loop-i-preserved c =
-    let e = total_next c.loop-i.i (λ k. word_at c.args.bytes.now (c.args.at + 4 * k)) in
-    (omega (arith, c.loop-i.invariant.0, c.word_at-sum.ensures.value), omega (arith, c.loop-i.invariant.1, c.word_at-sum.ensures.upper_bound))
+pub returns : goal.returns
+returns c =
+    let k = c.in-None.ensures.steps in
+    let i = c.loop-word.invariant in
+    adding_ends i.1 (omega (arith, k.1.0, i.0)) c.requires

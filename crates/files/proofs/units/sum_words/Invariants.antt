@@ -1,9 +1,8 @@
--- `files::units::sum_words` meets its contract. Invariant: the sum of the words so far, and how large it may be.
+-- `files::units::sum_words` meets its contract. Invariant: the sum so far, with the words that are left.
 use mathlib.Core.Path.{◌≡◌}
-use Prim.Native.Nat.{◌≤◌, ◌+◌, ◌*◌}
-use Rattle.portgraph.specs.Model.{total}
-use Rattle.files.specs.Layout.{word_at}
+use Rattle.std.specs.Slice.Iter.{chunks_exact_rest, chunks_exact_size}
+use Rattle.files.specs.UnitSteps.{Adding}
 use Rattle.files.proofs.units.sum_words.Given as goal
 
-abbrev pub invariant-loop-i : goal.invariant-loop-i
-invariant-loop-i l = (l.sum ≡ total l.i (λ k. word_at l.bytes (l.at + 4 * k))) × (l.sum ≤ l.i * 4294967295)
+abbrev pub invariant-loop-word : goal.invariant-loop-word
+invariant-loop-word l = (chunks_exact_size l.word-iterator ≡ 4) × Adding l.words (chunks_exact_rest l.word-iterator) l.sum

@@ -1,14 +1,10 @@
 -- `lent_calls::lent_blocks::add_lent` meets its contract.
 use mathlib.Core.Path.{refl}
-use Rattle.multiportgraph.specs.CallSteps.{lower_wf}
 use Rattle.multiportgraph.specs.LentSteps.{block_added_in}
 use Rattle.portgraph.specs.LentWords.{with_words, and_numbers}
 use Rattle.multiportgraph.specs.Answers.{add_numbers}
 use Rattle.multiportgraph.specs.MultiLent.{totals_of}
 use Rattle.lent_calls.proofs.lent_blocks.add_lent.Goals as goal
-
-pub add_node_lent-requires : goal.add_node_lent-requires
-add_node_lent-requires c = lower_wf _ c.requires
 
 pub returns : goal.returns
 returns c =

@@ -13,4 +13,4 @@ list_copies-requires c =
 
 pub returns : goal.returns
 returns c =
-    dropped_listed (graph_of c.args.graph.now) c.args.resize.meta c.args.resize.incoming c.args.resize.outgoing c.wide-first.result c.from-old_in.result c.from-old_out.result c.kept_incoming-kept_in.result c.kept_outgoing-kept_out.result c.list_copies-middle.result c.list_copies.result c.args.list.now _ _ c.wide-first.ensures c.from-old_in.ensures c.from-old_out.ensures (c.kept_incoming-kept_in.ensures ∙ ap (λ (k : ℕ). min k c.args.resize.incoming) (sym c.from-old_in.ensures)) (c.kept_outgoing-kept_out.ensures ∙ ap (λ (k : ℕ). min k c.args.resize.outgoing) (sym c.from-old_out.ensures)) c.list_copies-middle.ensures.0 c.list_copies-middle.ensures.1 c.list_copies.ensures.0 c.list_copies.ensures.1
+    dropped_listed (graph_of c.args.graph.now) c.args.resize.meta c.args.resize.incoming c.args.resize.outgoing c.wide-first.result c.from-old_in.result c.from-old_out.result c.kept_incoming-kept_in.result c.kept_outgoing-kept_out.result c.list_copies-middle.result c.list_copies.result c.args.list.now _ _ c.wide-first.ensures c.from-old_in.ensures c.from-old_out.ensures c.kept_incoming-kept_in.ensures c.kept_outgoing-kept_out.ensures c.list_copies-middle.ensures.0 c.list_copies-middle.ensures.1 c.list_copies.ensures.0 c.list_copies.ensures.1

@@ -1,6 +1,6 @@
 -- `lent_calls::lent_copies::remove_all_lent` meets its contract. Invariant: what is left to do amounts to all that was to do.
 use mathlib.Core.Path.{◌≡◌}
-use lib.ListN.{take, drop}
+use lib.ListN.{drop}
 use Rattle.port_tables.specs.NodeWords.{StaysCanonical}
 use Rattle.multiportgraph.specs.MultiLent.{graph_of, Sound}
 use Rattle.multiportgraph.specs.HiddenNodes.{remove_all}

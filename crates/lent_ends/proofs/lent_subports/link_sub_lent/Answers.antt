@@ -1,6 +1,5 @@
 -- `lent_ends::lent_subports::link_sub_lent` meets its contract: two ends that are linked, and a refusal.
 use Rattle.std.specs.Prelude.{Bool, false, List, ℕ, Result, Ok}
-use Rattle.std.proofs.lemmas.Result.{err_from_is_err_and}
 use mathlib.Core.Path.{◌≡◌, refl, sym, ◌∙◌}
 use native.Mathlib.Omega.{arith}
 use Rattle.portgraph.specs.GoodSlots.{zero_is_not_one}
@@ -16,6 +15,7 @@ use Rattle.multiportgraph.specs.LentSteps.{link_parts, link_made_in}
 use Rattle.portgraph.specs.LentWords.{with_words, and_numbers}
 use Rattle.multiportgraph.specs.Answers.{link_numbers}
 use Rattle.multiportgraph.specs.MultiLent.{totals_of}
+use Rattle.port_tables.specs.TableSteps.{passed_on}
 use Rattle.lent_ends.proofs.lent_subports.link_sub_lent.Goals as goal
 
 -- two ends are told: no input is taken, and the ends are those that are named
@@ -36,6 +36,5 @@ returns c =
 
 pub returns-in_err-x : goal.returns-in_err-x
 returns-in_err-x c =
-    let p = err_from_is_err_and c.from_residual.result c.from_residual.ensures.1 in
     let e = c.wire_tables-tables.ensures in
-    rw (p.1, p.2) (and_numbers link_numbers (with_words (link_parts (sub_refused c.requires _ _ _ _ (rw (← e.0, ← e.1, ← e.2, ← e.3) c.link_named_under.ensures) c.in_err-x.was)) refl))
+    rw (passed_on c.from_residual.ensures.1) (and_numbers link_numbers (with_words (link_parts (sub_refused c.requires _ _ _ _ (rw (← e.0, ← e.1, ← e.2, ← e.3) c.link_named_under.ensures) c.in_err-x.was)) refl))

@@ -2,8 +2,9 @@
 use mathlib.Core.Path.{◌∙◌}
 use Rattle.multiportgraph.specs.MultiLent.{graph_of, totals_of}
 use Rattle.multiportgraph.specs.NeedLaws.{need_read}
-use Rattle.multiportgraph.specs.LentEndSteps.{first_parts, first_none}
+use Rattle.multiportgraph.specs.LentEndSteps.{first_parts}
 use Rattle.portgraph.specs.LentWords.{with_words}
+use Rattle.port_tables.specs.TableSteps.{or_told}
 use Rattle.lent_linking.proofs.lent_links.link_first_lent.Goals as goal
 
 pub prepare_lent-requires : goal.prepare_lent-requires
@@ -12,8 +13,4 @@ prepare_lent-requires c =
 
 pub returns : goal.returns
 returns c =
-    with_words (first_parts (graph_of c.args.graph.now) c.args.a.port c.args.a.side c.prepare_lent.result c.prepare_lent.ensures.0 c.args.b.0 c.in-Some.is) c.prepare_lent.ensures.1
-
-pub returns-in_default : goal.returns-in_default
-returns-in_default c =
-    with_words (first_none (graph_of c.args.graph.now) c.args.a.port c.args.a.side c.prepare_lent.result c.prepare_lent.ensures.0 c.args.b.0 c.in_default.is) c.prepare_lent.ensures.1
+    with_words (first_parts (graph_of c.args.graph.now) c.args.a.port c.args.a.side c.prepare_lent.result c.prepare_lent.ensures.0 c.args.b.0 (or_told _ _ _ c.ok_or.ensures.value c.in_ok-ok_or.was)) c.prepare_lent.ensures.1

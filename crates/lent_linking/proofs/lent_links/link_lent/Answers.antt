@@ -1,11 +1,10 @@
 -- `lent_linking::lent_links::link_lent` meets its contract: an input that has a wire, and else by how the first port is seen.
-use Rattle.std.proofs.lemmas.Result.{err_from_is_err_and}
-use mathlib.Core.Bool.{false}
 use mathlib.Core.Path.{◌≡◌, refl, sym, ap, ◌∙◌}
 use Rattle.port_tables.specs.Limits.{present}
 use Rattle.multi_tables.specs.NamedEnds.{block_port}
+use Rattle.multi_tables.specs.TakenInputs.{taken_in}
+use Rattle.multi_tables.specs.TakenSteps.{inputs_taken, inputs_untaken}
 use Rattle.multiportgraph.specs.Reading.{seen}
-use Rattle.multiportgraph.specs.Calls.{link_pair_if}
 use Rattle.multiportgraph.specs.Cases.{link_seen}
 use Rattle.multiportgraph.specs.CaseLaws.{link_cases}
 use Rattle.multiportgraph.specs.Presumed.{OnBlock}
@@ -17,9 +16,10 @@ use Rattle.portgraph.specs.LentWords.{with_words, without_words, and_numbers}
 use Rattle.multiportgraph.specs.Answers.{link_numbers}
 use Rattle.multiportgraph.specs.declared.multiportgraph.PortsLinked.{PortsLinked}
 use Rattle.multi_tables.specs.declared.answers.Refusal.{Refusal}
-use Rattle.std.specs.Prelude.{Err}
+use Rattle.std.specs.Prelude.{Err, false}
+use Rattle.port_tables.specs.TableSteps.{passed_on}
 use Rattle.lent_linking.proofs.lent_links.link_lent.Goals as goal
-use Rattle.lent_linking.proofs.lent_links.link_lent.Goals.{In_ok-side, In_err-side}
+use Rattle.lent_linking.proofs.lent_links.link_lent.Goals.{In_ok-side, In_err-side, In_ok-inputs_free}
 
 -- the first port as the tables of the graph tell it
 on-block : (c : In_ok-side) → OnBlock (graph_of c.args.graph.now) c.args.port_a.0 c.in_ok-side.side
@@ -30,26 +30,30 @@ on-block c =
 refused-port : (c : In_err-side) {r : Refusal} → c.block_port.result ≡ Err r → block_port c.args.graph.now.ports.owners c.args.graph.now.flags c.args.port_a.0 ≡ Err r
 refused-port c t = let e = c.wire_tables-tables.ensures in sym (rw (← e.2, ← e.3) c.block_port.ensures) ∙ t
 
-pub returns-then-input_taken : goal.returns-then-input_taken
-returns-then-input_taken c =
+pub returns-in_err-inputs_free : goal.returns-in_err-inputs_free
+returns-in_err-inputs_free c =
     let e = c.wire_tables-tables.ensures in
-    and_numbers link_numbers (with_words (link_parts (ports_taken c.requires _ _ (rw (← e.0, ← e.1, ← e.2, ← e.3) c.input_taken.ensures) c.if-input_taken.true _ (rw (← e.2, ← e.3) c.taken_ports.ensures))) (λ h. h))
+    let t = inputs_taken _ _ _ _ _ _ _ (rw (← e.0, ← e.1, ← e.2, ← e.3) c.inputs_free.ensures) _ c.in_err-inputs_free.was in
+    rw (passed_on c.from_residual.ensures.1) (and_numbers link_numbers (with_words (link_parts (ports_taken c.requires _ _ refl t.0 _ t.1)) (λ h. h)))
+
+-- no input that has a wire is named
+untaken : (c : In_ok-inputs_free) → taken_in c.args.graph.now.marks c.args.graph.now.ports.links c.args.graph.now.ports.owners c.args.graph.now.flags c.args.graph.now.release c.args.port_a.0 c.args.port_b.0 ≡ false
+untaken c =
+    let e = c.wire_tables-tables.ensures in
+    inputs_untaken _ _ _ _ _ _ _ (rw (← e.0, ← e.1, ← e.2, ← e.3) c.inputs_free.ensures) _ c.in_ok-inputs_free.was
 
 pub link_seen_lent-requires : goal.link_seen_lent-requires
 link_seen_lent-requires c = on-block (goal.at.link_seen_lent-requires c).In_ok-side
 
 pub returns-in_err-side : goal.returns-in_err-side
 returns-in_err-side c =
-    let p = err_from_is_err_and c.from_residual.result c.from_residual.ensures.1 in
-    let e = c.wire_tables-tables.ensures in
     let m = graph_of c.args.graph.now in
     let r = refused-port (goal.at.returns-in_err-side c).In_err-side c.in_err-side.was in
     let z = link_cases present m c.args.port_a.0 c.args.port_b.0 in
     let graph = sym (ap (λ (l : PortsLinked). l.graph) z ∙ block_unseen m c.args.port_a.0 c.requires.fine.flags_long (λ s. (link_seen m c.args.port_a.0 c.args.port_b.0 s (seen m c.args.port_b.0)).graph) m _ refl refl r) in
     let answer = block_told m c.args.port_a.0 c.requires.fine.flags_long (λ s. (link_seen m c.args.port_a.0 c.args.port_b.0 s (seen m c.args.port_b.0)).answer) _ refl refl r ∙ sym (ap (λ (l : PortsLinked). l.answer) z) in
-    rw (p.1, p.2) (and_numbers link_numbers (with_words (parts_untaken (ports_untaken c.requires _ _ (rw (← e.0, ← e.1, ← e.2, ← e.3) c.input_taken.ensures) c.if-input_taken.false refl) (graph, answer)) (λ h. h)))
+    rw (passed_on c.from_residual-in_err-side.ensures.1) (and_numbers link_numbers (with_words (parts_untaken (ports_untaken c.requires _ _ refl (untaken (goal.at.returns-in_err-side c).In_ok-inputs_free) refl) (graph, answer)) (λ h. h)))
 
 pub returns : goal.returns
 returns c =
-    let e = c.wire_tables-tables.ensures in
-    and_numbers link_numbers (with_words (parts_untaken (ports_untaken c.requires _ _ (rw (← e.0, ← e.1, ← e.2, ← e.3) c.input_taken.ensures) c.if-input_taken.false refl) (without_words c.link_seen_lent.ensures)) c.link_seen_lent.ensures.2)
+    and_numbers link_numbers (with_words (parts_untaken (ports_untaken c.requires _ _ refl (untaken (goal.at.returns c).In_ok-inputs_free) refl) (without_words c.link_seen_lent.ensures)) c.link_seen_lent.ensures.2)

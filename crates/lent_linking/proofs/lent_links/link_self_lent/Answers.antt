@@ -2,8 +2,9 @@
 use mathlib.Core.Path.{◌∙◌}
 use Rattle.multiportgraph.specs.MultiLent.{graph_of, totals_of}
 use Rattle.multiportgraph.specs.NeedLaws.{need_read}
-use Rattle.multiportgraph.specs.LentEndSteps.{self_parts, self_none}
+use Rattle.multiportgraph.specs.LentEndSteps.{self_parts}
 use Rattle.portgraph.specs.LentWords.{with_words}
+use Rattle.port_tables.specs.TableSteps.{or_told}
 use Rattle.lent_linking.proofs.lent_links.link_self_lent.Goals as goal
 
 pub prepare_lent-requires : goal.prepare_lent-requires
@@ -12,8 +13,4 @@ prepare_lent-requires c =
 
 pub returns : goal.returns
 returns c =
-    with_words (self_parts (graph_of c.args.graph.now) c.args.a.port c.args.a.side c.prepare_lent.result c.prepare_lent.ensures.0 c.requires c.in-Some.is) c.prepare_lent.ensures.1
-
-pub returns-in_default : goal.returns-in_default
-returns-in_default c =
-    with_words (self_none (graph_of c.args.graph.now) c.args.a.port c.args.a.side c.prepare_lent.result c.prepare_lent.ensures.0 c.in_default.is) c.prepare_lent.ensures.1
+    with_words (self_parts (graph_of c.args.graph.now) c.args.a.port c.args.a.side c.prepare_lent.result c.prepare_lent.ensures.0 c.requires (or_told _ _ _ c.ok_or.ensures.value c.in_ok-x.was)) c.prepare_lent.ensures.1

@@ -6,87 +6,73 @@ use native.Mathlib.Omega.{arith}
 use borrow.Author.Tests.{ltb-true, ltb-false}
 use Rattle.port_tables.specs.Limits.{node_slots, port_slots, node_ports}
 use Rattle.portgraph.specs.Calls.{find_slot, find_block, add_numbers}
-use Rattle.portgraph.specs.Lent.{graph_in}
-use Rattle.portgraph.specs.WfFacts.{node_len_fits, port_len_fits, node_count_fits, port_count_fits}
+use Rattle.portgraph.specs.Lent.{graph_of}
+use Rattle.portgraph.specs.WfFacts.{node_count_fits, port_count_fits}
 use Rattle.portgraph.specs.SlotSteps.{too_many_ports, no_node_slot, no_block, node_slot_fits, new_block_fits}
 use Rattle.portgraph.specs.LentSteps.{added_in, node_added_in}
 use Rattle.portgraph.specs.LentWords.{with_words, and_numbers}
+use Rattle.port_tables.specs.TableSteps.{or_told, or_lacking, passed_on}
 use Rattle.lent_portgraph.proofs.lent_slots.add_node_lent.Goals as goal
-use Rattle.lent_portgraph.proofs.lent_slots.add_node_lent.Goals.{In-Some-find_block}
+use Rattle.lent_portgraph.proofs.lent_slots.add_node_lent.Goals.{In_ok-first}
 
-ports-fit-at : (c : In-Some-find_block) → c.args.incoming + c.args.outgoing ≤ node_ports
+ports-fit-at : (c : In_ok-first) → c.args.incoming + c.args.outgoing ≤ node_ports
 ports-fit-at c = ltb-false _ _ (sym c.too_many_ports.ensures ∙ c.if-too_many_ports.false)
 
-slot-found-at : (c : In-Some-find_block) → find_slot c.args.tables.now.counts.node_free c.args.tables.now.counts.node_len ≡ Some c.in-Some.node
-slot-found-at c = sym c.find_slot.ensures ∙ c.in-Some.is
+slot-found-at : (c : In_ok-first) → find_slot c.args.tables.now.counts.node_free c.args.tables.now.counts.node_len ≡ Some c.in_ok-node.node
+slot-found-at c = sym c.find_slot.ensures ∙ or_told _ _ _ c.ok_or.ensures.value c.in_ok-node.was
 
-block-found-at : (c : In-Some-find_block) → find_block c.args.tables.now.heads c.args.tables.now.counts.port_len (c.args.incoming + c.args.outgoing) ≡ Some c.in-Some-find_block.first
-block-found-at c = sym c.find_block.ensures ∙ c.in-Some-find_block.is
+block-found-at : (c : In_ok-first) → find_block c.args.tables.now.heads c.args.tables.now.counts.port_len (c.args.incoming + c.args.outgoing) ≡ Some c.in_ok-first.first
+block-found-at c = sym c.find_block.ensures ∙ or_told _ _ _ c.ok_or-2.ensures.value c.in_ok-first.was
 
-slot-fits-at : (c : In-Some-find_block) → c.in-Some.node < node_slots
-slot-fits-at c = node_slot_fits (graph_in c.args.tables.now.nodes c.args.tables.now.links c.args.tables.now.owners c.args.tables.now.heads c.args.tables.now.counts) c.requires _ (slot-found-at c)
+slot-fits-at : (c : In_ok-first) → c.in_ok-node.node < node_slots
+slot-fits-at c = node_slot_fits (graph_of c.args.tables.now) c.requires _ (slot-found-at c)
 
-block-fits-at : (c : In-Some-find_block) → c.in-Some-find_block.first + (c.args.incoming + c.args.outgoing) ≤ port_slots
-block-fits-at c = new_block_fits (graph_in c.args.tables.now.nodes c.args.tables.now.links c.args.tables.now.owners c.args.tables.now.heads c.args.tables.now.counts) c.requires _ _ (ports-fit-at c) (block-found-at c)
+block-fits-at : (c : In_ok-first) → c.in_ok-first.first + (c.args.incoming + c.args.outgoing) ≤ port_slots
+block-fits-at c = new_block_fits (graph_of c.args.tables.now) c.requires _ _ (ports-fit-at c) (block-found-at c)
 
 pub returns-then-too_many_ports : goal.returns-then-too_many_ports
 returns-then-too_many_ports c =
-    and_numbers add_numbers (with_words (added_in (too_many_ports (graph_in c.args.tables.now.nodes c.args.tables.now.links c.args.tables.now.owners c.args.tables.now.heads c.args.tables.now.counts) c.args.incoming c.args.outgoing (ltb-true _ _ (sym c.too_many_ports.ensures ∙ c.if-too_many_ports.true)))) (λ h. h))
+    and_numbers add_numbers (with_words (added_in (too_many_ports (graph_of c.args.tables.now) c.args.incoming c.args.outgoing (ltb-true _ _ (sym c.too_many_ports.ensures ∙ c.if-too_many_ports.true)))) (λ h. h))
 
-pub returns-in_default : goal.returns-in_default
-returns-in_default c =
-    and_numbers add_numbers (with_words (added_in (no_node_slot (graph_in c.args.tables.now.nodes c.args.tables.now.links c.args.tables.now.owners c.args.tables.now.heads c.args.tables.now.counts) c.args.incoming c.args.outgoing (ltb-false _ _ (sym c.too_many_ports.ensures ∙ c.if-too_many_ports.false)) (sym c.find_slot.ensures ∙ c.in_default.is))) (λ h. h))
+pub returns-in_err-node : goal.returns-in_err-node
+returns-in_err-node c =
+    let none = or_lacking _ _ _ c.ok_or.ensures.value c.in_err-node.was in
+    rw (passed_on c.from_residual.ensures.1, none.1) (and_numbers add_numbers (with_words (added_in (no_node_slot (graph_of c.args.tables.now) c.args.incoming c.args.outgoing (ltb-false _ _ (sym c.too_many_ports.ensures ∙ c.if-too_many_ports.false)) (sym c.find_slot.ensures ∙ none.0))) (λ h. h)))
 
-pub returns-in_default-find_block : goal.returns-in_default-find_block
-returns-in_default-find_block c =
-    and_numbers add_numbers (with_words (added_in (no_block (graph_in c.args.tables.now.nodes c.args.tables.now.links c.args.tables.now.owners c.args.tables.now.heads c.args.tables.now.counts) c.args.incoming c.args.outgoing _ (ltb-false _ _ (sym c.too_many_ports.ensures ∙ c.if-too_many_ports.false)) (sym c.find_slot.ensures ∙ c.in-Some.is) (sym c.find_block.ensures ∙ c.in_default-find_block.is))) (λ h. h))
+pub returns-in_err-first : goal.returns-in_err-first
+returns-in_err-first c =
+    let none = or_lacking _ _ _ c.ok_or-2.ensures.value c.in_err-first.was in
+    rw (passed_on c.from_residual-in_err-first.ensures.1, none.1) (and_numbers add_numbers (with_words (added_in (no_block (graph_of c.args.tables.now) c.args.incoming c.args.outgoing _ (ltb-false _ _ (sym c.too_many_ports.ensures ∙ c.if-too_many_ports.false)) (sym c.find_slot.ensures ∙ or_told _ _ _ c.ok_or.ensures.value c.in_ok-node.was) (sym c.find_block.ensures ∙ none.0))) (λ h. h)))
 
 pub overflow_cast-meta : goal.overflow_cast-meta
-overflow_cast-meta c = omega (arith, block-fits-at (goal.at.overflow_cast-meta c).In-Some-find_block)
+overflow_cast-meta c = omega (arith, block-fits-at (goal.at.overflow_cast-meta c).In_ok-first)
 
 pub slot_after-after-requires : goal.slot_after-after-requires
-slot_after-after-requires c = slot-fits-at (goal.at.slot_after-after-requires c).In-Some-find_block
-
-pub overflow_cast-first : goal.overflow_cast-first
-overflow_cast-first c = omega (arith, block-fits-at (goal.at.overflow_cast-first c).In-Some-find_block)
-
-pub overflow_cast-size : goal.overflow_cast-size
-overflow_cast-size c = omega (arith, ports-fit-at (goal.at.overflow_cast-size c).In-Some-find_block)
+slot_after-after-requires c = slot-fits-at (goal.at.slot_after-after-requires c).In_ok-first
 
 pub overflow_cast-node : goal.overflow_cast-node
-overflow_cast-node c = omega (arith, slot-fits-at (goal.at.overflow_cast-node c).In-Some-find_block)
+overflow_cast-node c = omega (arith, slot-fits-at (goal.at.overflow_cast-node c).In_ok-first)
 
 pub own_block-requires : goal.own_block-requires
-own_block-requires c = omega (arith, slot-fits-at (goal.at.own_block-requires c).In-Some-find_block, block-fits-at (goal.at.own_block-requires c).In-Some-find_block)
-
-pub grown-requires : goal.grown-requires
-grown-requires c =
-    omega (arith, node_len_fits (graph_in c.args.tables.now.nodes c.args.tables.now.links c.args.tables.now.owners c.args.tables.now.heads c.args.tables.now.counts) c.requires)
-
-pub grown-requires-2 : goal.grown-requires-2
-grown-requires-2 c =
-    omega (arith, ports-fit-at (goal.at.grown-requires-2 c).In-Some-find_block, port_len_fits (graph_in c.args.tables.now.nodes c.args.tables.now.links c.args.tables.now.owners c.args.tables.now.heads c.args.tables.now.counts) c.requires)
+own_block-requires c = omega (arith, slot-fits-at (goal.at.own_block-requires c).In_ok-first, block-fits-at (goal.at.own_block-requires c).In_ok-first)
 
 pub overflow_add-tables : goal.overflow_add-tables
 overflow_add-tables c =
-    omega (arith, node_count_fits (graph_in c.args.tables.now.nodes c.args.tables.now.links c.args.tables.now.owners c.args.tables.now.heads c.args.tables.now.counts) c.requires)
+    omega (arith, node_count_fits (graph_of c.args.tables.now) c.requires)
 
 pub overflow_add-tables-2 : goal.overflow_add-tables-2
 overflow_add-tables-2 c =
-    omega (arith, ports-fit-at (goal.at.overflow_add-tables-2 c).In-Some-find_block, port_count_fits (graph_in c.args.tables.now.nodes c.args.tables.now.links c.args.tables.now.owners c.args.tables.now.heads c.args.tables.now.counts) c.requires)
+    omega (arith, ports-fit-at (goal.at.overflow_add-tables-2 c).In_ok-first, port_count_fits (graph_of c.args.tables.now) c.requires)
 
 pub overflow_cast-result : goal.overflow_cast-result
-overflow_cast-result c = omega (arith, slot-fits-at (goal.at.overflow_cast-result c).In-Some-find_block)
-
-pub overflow_cast-result-2 : goal.overflow_cast-result-2
-overflow_cast-result-2 c = omega (arith, block-fits-at (goal.at.overflow_cast-result-2 c).In-Some-find_block)
+overflow_cast-result c = omega (arith, slot-fits-at (goal.at.overflow_cast-result c).In_ok-first)
 
 pub returns : goal.returns
 returns c =
-    and_numbers add_numbers (with_words (node_added_in c.args.tables.now.nodes c.args.tables.now.links c.args.tables.now.owners c.args.tables.now.heads c.args.tables.now.counts c.requires c.args.incoming c.args.outgoing _ _ _ _
-    (ports-fit-at (goal.at.returns c).In-Some-find_block)
-    (slot-found-at (goal.at.returns c).In-Some-find_block)
-    (block-found-at (goal.at.returns c).In-Some-find_block)
+    and_numbers add_numbers (with_words (node_added_in c.args.tables.now c.requires c.args.incoming c.args.outgoing _ _ _ _
+    (ports-fit-at (goal.at.returns c).In_ok-first)
+    (slot-found-at (goal.at.returns c).In_ok-first)
+    (block-found-at (goal.at.returns c).In_ok-first)
     refl
     c.next_in.ensures
     c.rest_of-free.ensures

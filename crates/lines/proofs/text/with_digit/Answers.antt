@@ -1,12 +1,8 @@
 -- `lines::text::with_digit` meets its contract. Assumes nothing.
 use Rattle.std.proofs.Common.{arith, ap, ◌∙◌}
-use Rattle.std.proofs.Math.Logic.{⊎_elim}
 use Rattle.lines.specs.Text.{value_or_none}
-use Rattle.lines.specs.TextSteps.{digit_low, digit_high, digit_too_many, digit_added}
+use Rattle.lines.specs.TextSteps.{digit_too_many, digit_added}
 use Rattle.lines.proofs.text.with_digit.Goals as goal
-
-pub returns-then-not-is_ascii_digit : goal.returns-then-not-is_ascii_digit
-returns-then-not-is_ascii_digit c = ⊎_elim (λ h. digit_low _ _ h) (λ h. digit_high _ _ h) c.if-not-is_ascii_digit.ensures.cases
 
 pub returns-in_err-checked_mul : goal.returns-in_err-checked_mul
 returns-in_err-checked_mul c = let d = c.if-not-is_ascii_digit.ensures.cases in let m = c.in_err-checked_mul.ensures in

@@ -1,17 +1,13 @@
--- `multi_tables::reads::run_down` meets its contract. Invariant: every slot passed has the owner, and the rest is left to run.
-use mathlib.Core.Path.{sym, ◌∙◌}
-use native.Mathlib.Omega.{arith}
-use Rattle.multi_tables.specs.TableReadSteps.{run_turn, run_stop, run_all, down_start, down_yes, down_no}
+-- `multi_tables::reads::run_down` meets its contract: what `find` gives is where the row ends.
+use Rattle.std.proofs.Common.{rules, ◌≡◌, true, false, ◌∙◌, ap}
+use Rattle.std.proofs.lemmas.Iterator.{first_from_Range}
+use borrow.Author.Tests.{tests}
+use Rattle.multi_tables.specs.TableReads.{in_row, run_down, owns_down}
+use Rattle.multi_tables.specs.TableReadSteps.{row_found}
 use Rattle.multi_tables.proofs.reads.run_down.Goals as goal
 
-pub loop-k-init : goal.loop-k-init
-loop-k-init c = down_start _ _ _ _ c.within-most.ensures
-
-pub returns-then-at-owner : goal.returns-then-at-owner
-returns-then-at-owner c = sym (c.loop-k.invariant ∙ run_stop _ _ _ c.loop-k-test.true (down_no _ _ _ _ _ c.at.ensures c.if-at-owner.true))
-
-pub loop-k-preserved : goal.loop-k-preserved
-loop-k-preserved c = c.loop-k.invariant ∙ run_turn _ _ _ c.loop-k-test.true (down_yes _ _ _ _ _ c.at.ensures c.if-at-owner.false)
-
 pub returns : goal.returns
-returns c = run_all _ _ _ (omega arith) ∙ sym c.loop-k.invariant
+unfolding run_down owns_down
+returns c =
+    c.unwrap_or.ensures
+    ∙ row_found _ c.min-most.result _ (first_from_Range _ _ _ _ (λ k. owns_down c.args.owners.now c.args.owner c.args.from k ≡ false) (λ k. owns_down c.args.owners.now c.args.owner c.args.from k ≡ true) c.find.ensures.ran (λ x q k. search (rules, tests)) (λ x q k. search (rules, tests))) ∙ ap (in_row (owns_down c.args.owners.now c.args.owner c.args.from) 0) c.min-most.ensures

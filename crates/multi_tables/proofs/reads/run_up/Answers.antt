@@ -1,17 +1,14 @@
--- `multi_tables::reads::run_up` meets its contract. Invariant: every slot passed has the owner, and the rest is left to run.
-use mathlib.Core.Path.{sym, ◌∙◌}
-use native.Mathlib.Omega.{arith}
-use Rattle.multi_tables.specs.TableReadSteps.{run_turn, run_stop, run_all, up_start, up_yes, up_no}
+-- `multi_tables::reads::run_up` meets its contract: what `find` gives is where the row ends.
+use Rattle.std.proofs.Common.{rules, ◌≡◌, true, false, ◌∙◌}
+use Rattle.std.proofs.lemmas.Iterator.{first_from_Range}
+use borrow.Author.Tests.{tests}
+use Rattle.port_tables.specs.Limits.{port_slots}
+use Rattle.multi_tables.specs.TableReads.{run_up, owns_up}
+use Rattle.multi_tables.specs.TableReadSteps.{row_found}
 use Rattle.multi_tables.proofs.reads.run_up.Goals as goal
 
-pub loop-k-init : goal.loop-k-init
-loop-k-init c = up_start _ _ _
-
-pub returns-then-at-owner : goal.returns-then-at-owner
-returns-then-at-owner c = sym (c.loop-k.invariant ∙ run_stop _ _ _ c.loop-k-test.true (up_no _ _ _ _ _ c.at.ensures c.if-at-owner.true))
-
-pub loop-k-preserved : goal.loop-k-preserved
-loop-k-preserved c = c.loop-k.invariant ∙ run_turn _ _ _ c.loop-k-test.true (up_yes _ _ _ _ _ c.at.ensures c.if-at-owner.false)
-
 pub returns : goal.returns
-returns c = run_all _ _ _ (omega arith) ∙ sym c.loop-k.invariant
+unfolding run_up owns_up
+returns c =
+    c.unwrap_or.ensures
+    ∙ row_found _ port_slots _ (first_from_Range _ _ _ _ (λ k. owns_up c.args.owners.now c.args.owner c.args.from k ≡ false) (λ k. owns_up c.args.owners.now c.args.owner c.args.from k ≡ true) c.find.ensures.ran (λ x q k. search (rules, tests)) (λ x q k. search (rules, tests)))

@@ -1,21 +1,27 @@
--- `multiportgraph::tidy::linked_from` meets its contract. Invariant: what is left of the ports passed and the rest is what is left of all.
-use mathlib.Core.Path.{sym, ◌∙◌}
-use Prim.Native.Nat.{◌+◌, ◌-◌, ◌<◌}
-use native.Mathlib.Omega.{arith}
-use Rattle.port_tables.specs.Limits.{port_slots}
-use Rattle.port_tables.specs.TableSteps.{at_inside}
-use Rattle.multiportgraph.specs.TidySteps.{linked_stop, linked_turn, linked_end}
+-- `multiportgraph::tidy::linked_from` meets its contract: what `find` gives from the back is the highest slot that holds a link.
+use mathlib.Core.Path.{ap, ◌∙◌}
+use Rattle.std.specs.Prelude.{not, eqb}
+use Rattle.std.specs.Option.{option_map_or}
+use Rattle.std.proofs.Common.{rules, ◌≡◌, ◌+◌, ℕ, true, false}
+use Rattle.std.proofs.lemmas.Iterator.{first_from_find}
+use borrow.Author.Tests.{tests, eq-eqb, ne_eqb}
+use Rattle.port_tables.specs.Tables.{at}
+use Rattle.multiportgraph.specs.RangeSearches.{found_last, gives_down}
+use Rattle.multiportgraph.specs.TidySteps.{holds_link, left_found}
 use Rattle.multiportgraph.proofs.tidy.linked_from.Goals as goal
 
-pub returns-then-links-first-ne0 : goal.returns-then-links-first-ne0
-returns-then-links-first-ne0 c =
-    let inside : c.args.first + (c.loop-k.k - 1) < port_slots = omega (arith, c.loop-k-test.true, c.requires) in
-    linked_stop _ _ _ c.loop-k-test.true (λ z. c.if-links-first-ne0.true (at_inside _ _ inside ∙ z)) ∙ sym c.loop-k.invariant
+hit : (h : ℕ) → (h ≡ 0 → ⊥) → not (eqb h 0) ≡ true
+hit h n = ap not (ne_eqb h 0 n)
 
-pub loop-k-preserved : goal.loop-k-preserved
-loop-k-preserved c =
-    let inside : c.args.first + (c.loop-k.k - 1) < port_slots = omega (arith, c.loop-k-test.true, c.requires) in
-    c.loop-k.invariant ∙ linked_turn _ _ _ c.loop-k-test.true (sym (at_inside _ _ inside) ∙ c.if-links-first-ne0.false)
+miss : (h : ℕ) → h ≡ 0 → not (eqb h 0) ≡ false
+miss h e = ap not (eq-eqb h 0 e)
 
 pub returns : goal.returns
-returns c = sym (c.loop-k.invariant ∙ linked_end _ _ _ c.loop-k-test.false)
+returns c =
+    let e : c.map_or.result ≡ option_map_or (λ k. k + 1) c.find.result 0 = search rules in
+    e
+    ∙ left_found c.args.links.now c.args.first c.args.count _
+    (found_last (holds_link c.args.links.now c.args.first) 0 c.args.count _ _ c.rev.ensures.source
+    (first_from_find _ _ _ (λ k. holds_link c.args.links.now c.args.first k ≡ true) (λ k. holds_link c.args.links.now c.args.first k ≡ false) c.find.ensures.ran (gives_down _)
+    (λ x q k. hit (at c.args.links.now (c.args.first + x)) (search (rules, tests)))
+    (λ x q k. let h : (q ≡ _) × (at c.args.links.now (c.args.first + x) ≡ 0) = search (rules, tests) in (h.0, miss (at c.args.links.now (c.args.first + x)) h.1)))).0

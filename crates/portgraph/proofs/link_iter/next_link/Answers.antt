@@ -1,16 +1,13 @@
--- `portgraph::link_iter::next_link` meets its contract. Invariant: the search from `port` on finds what the search from
--- the start finds.
-use mathlib.Core.Path.{◌∙◌}
-use Rattle.portgraph.specs.LinkWalkSteps.{search_turn, search_stops, search_found, search_over, kept_read}
+-- `portgraph::link_iter::next_link` meets its contract: what `find` gives is what the search finds.
+use Rattle.std.proofs.Common.{rules, ◌≡◌, true, false}
+use Rattle.std.proofs.lemmas.Iterator.{first_from_Range}
+use borrow.Author.Tests.{tests}
+use Rattle.portgraph.specs.LinkWalks.{link_kept}
+use Rattle.portgraph.specs.LinkWalkSteps.{found_where}
 use Rattle.portgraph.proofs.link_iter.next_link.Goals as goal
 
-pub returns-then-is_kept : goal.returns-then-is_kept
-returns-then-is_kept c =
-    search_found _ c.loop-port.port _ _ c.loop-port-test.true (search_stops _ c.loop-port.port _ _ c.loop-port-test.true (kept_read _ _ _ c.at.ensures _ _ _ c.is_kept.ensures) c.if-is_kept.true ∙ c.loop-port.invariant)
-
-pub loop-port-preserved : goal.loop-port-preserved
-loop-port-preserved c =
-    search_turn _ c.loop-port.port _ _ c.loop-port-test.true (kept_read _ _ _ c.at.ensures _ _ _ c.is_kept.ensures) c.if-is_kept.false ∙ c.loop-port.invariant
-
-pub returns : goal.returns
-returns c = search_over _ _ _ _ c.loop-port-test.false c.loop-port.invariant
+pub returns-clause-is : goal.returns-clause-is
+unfolding link_kept
+returns-clause-is c =
+    found_where _ _ _ _
+    (first_from_Range _ _ _ _ (λ p. link_kept c.args.links.now c.args.skip.from c.args.skip.to p ≡ true) (λ p. link_kept c.args.links.now c.args.skip.from c.args.skip.to p ≡ false) c.find.ensures.ran (λ x q k. search (rules, tests)) (λ x q k. search (rules, tests)))

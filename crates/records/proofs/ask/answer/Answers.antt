@@ -1,12 +1,13 @@
 -- `records::ask::answer` meets its contract: each arm is the call that is asked. Assumes nothing.
-use mathlib.Core.Path.{refl, ap, ◌∙◌}
+use mathlib.Core.Path.{ap, ◌∙◌}
 use Rattle.multiportgraph.specs.declared.multiportgraph.NodeAdded.{NodeAdded}
 use Rattle.multiportgraph.specs.declared.multiportgraph.NodeRemoved.{NodeRemoved}
 use Rattle.multiportgraph.specs.declared.multiportgraph.PortsLinked.{PortsLinked}
 use Rattle.multiportgraph.specs.declared.multiportgraph.PortUnlinked.{PortUnlinked}
 use Rattle.records.specs.Run.{five}
 use Rattle.records.specs.Forms.{meant}
-use Rattle.records.specs.AskSteps.{answered, cut_answered, cut_sub_answered, link_of_answered}
+use Rattle.records.specs.AskSteps.{answered, counts_answered, cut_answered, cut_sub_answered}
+use Rattle.records.specs.AnswerSteps.{counts_fit}
 use Rattle.multi_tables.specs.EndAnswers.{unplaced}
 use Rattle.records.proofs.ask.answer.Goals as goal
 
@@ -19,9 +20,6 @@ pub returns-in-Remove : goal.returns-in-Remove
 returns-in-Remove c =
     answered c.requires (ap meant c.in-Remove.is) (c.remove_words.ensures ∙ ap five c.remove_node-removed.ensures.1)
     (ap (λ (r : NodeRemoved). r.graph) c.remove_node-removed.ensures.0)
-
-pub returns-in-Resize : goal.returns-in-Resize
-returns-in-Resize c = rw c.in-Resize.is c.answer_resize.ensures
 
 pub returns-in-Link : goal.returns-in-Link
 returns-in-Link c =
@@ -45,13 +43,8 @@ returns-in-UnlinkSubport c =
     (c.unplaced-in-UnlinkSubport.ensures.0 ∙ ap (λ (r : PortUnlinked). unplaced r.answer) c.unlink_subport-cut.ensures.0)
     (ap (λ (r : PortUnlinked). r.graph) c.unlink_subport-cut.ensures.0)
 
-pub returns-in-SubportLink : goal.returns-in-SubportLink
-returns-in-SubportLink c =
-    link_of_answered c.requires (ap meant c.in-SubportLink.is) c.cut_words-in-SubportLink.ensures
-    (c.unplaced-in-SubportLink.ensures.0 ∙ ap unplaced c.subport_link.ensures.0)
+pub counted-requires : goal.counted-requires
+counted-requires c = counts_fit _ c.requires c.node_count.ensures c.port_count.ensures c.link_count.ensures
 
 pub returns-in-Counts : goal.returns-in-Counts
-returns-in-Counts c = answered c.requires (ap meant c.in-Counts.is) c.count_words.ensures refl
-
-pub returns-in-Refused : goal.returns-in-Refused
-returns-in-Refused c = answered c.requires (ap meant c.in-Refused.is) c.five_words.ensures refl
+returns-in-Counts c = counts_answered c.requires (ap meant c.in-Counts.is) c.node_count.ensures c.port_count.ensures c.link_count.ensures c.counted.ensures

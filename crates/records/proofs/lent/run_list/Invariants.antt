@@ -1,9 +1,12 @@
--- `records::lent::run_list` meets its contract. The invariant: what is laid, with the rest of the run on the graph that the tables are, is the
--- whole; the graph is one of the calls. Assumes nothing.
+-- `records::lent::run_list` meets its contract. The invariant: what is laid, with the rest of the run on the present graph, is the whole;
+-- the graph is one of the calls. Assumes nothing.
 use Prim.Native.Nat.{◌*◌}
+use mathlib.Core.Path.{◌≡◌}
+use Rattle.std.specs.Iterator.Adapters.{enumerate_source, enumerate_count}
+use Rattle.std.specs.Slice.Iter.{chunks_exact_rest, chunks_exact_size}
 use Rattle.records.specs.RunSteps.{Running}
 use Rattle.multiportgraph.specs.MultiLent.{graph_of}
 use Rattle.records.proofs.lent.run_list.Given as goal
 
 abbrev pub invariant-loop-k : goal.invariant-loop-k
-invariant-loop-k l = Running l.requests l.answers (graph_of l.graph) (20 * l.k)
+invariant-loop-k l = (chunks_exact_size (enumerate_source l.k-iterator) ≡ 20) × Running l.requests (chunks_exact_rest (enumerate_source l.k-iterator)) l.answers (graph_of l.graph) (20 * enumerate_count l.k-iterator)

@@ -5,9 +5,9 @@ use Rattle.std.proofs.lemmas.List.{get_or_default}
 use Rattle.std.proofs.lemmas.Bool.{le-ltb}
 use Rattle.multiportgraph.specs.WellFormed.{MultiWf}
 use Rattle.multiportgraph.specs.declared.multiportgraph.MultiPortGraph.{MultiPortGraph}
+use Rattle.multiportgraph.specs.declared.multiportgraph.PortsLinked.{PortsLinked}
 use Rattle.sheets.specs.declared.sheet.SheetEntry.{SheetEntry}
-use Rattle.sheets.specs.declared.sheet.EntryLinked.{EntryLinked}
-use Rattle.sheets.specs.Sheets.{no_entry, entry_at, entry_linked}
+use Rattle.sheets.specs.Sheets.{EntryLinked, no_entry, entry_at, entry_linked, link_of, with_answer}
 use Rattle.sheets.specs.SheetSteps.{Sheet, finish, finish_one, finish_none, entry_kept, done_whole}
 use Rattle.sheets.proofs.sheet.link_sheet.Goals as goal
 
@@ -27,11 +27,18 @@ turned all m es i w h f =
           ∙ (finish_one (length es - (i + 1)) i m es ∙ (ap (λ (n : ℕ). finish n i m es) k ∙ f)),
     )
 
+-- an entry that has its answer
+abbrev done : PortsLinked → SheetEntry → EntryLinked
+done r e = record { graph = r.graph; entry = with_answer e r.answer }
+
+done_as : (m : MultiPortGraph) {r : PortsLinked} {x y : SheetEntry} → r ≡ link_of m x → x ≡ y → done r x ≡ entry_linked m y
+done_as m {x = x} e q = ap (λ (r : PortsLinked). done r x) e ∙ ap (entry_linked m) q
+
 pub loop-entry-preserved : goal.loop-entry-preserved
 unfolding Turned
 loop-entry-preserved c =
     let q = get_or_default c.loop-entry.sheet c.loop-entry.entry-index _ no_entry (omega arith) in
-    subst (Turned _ c.loop-entry.sheet c.loop-entry.entry-index) (sym (c.link_entry-done.ensures ∙ ap (entry_linked c.loop-entry.after) q))
+    subst (Turned _ c.loop-entry.sheet c.loop-entry.entry-index) (sym (done_as c.loop-entry.after c.link_ports-linked.ensures.0 q))
     (turned _ c.loop-entry.after c.loop-entry.sheet c.loop-entry.entry-index c.loop-entry.invariant.0 (omega arith) c.loop-entry.invariant.1)
 
 pub returns : goal.returns

@@ -1,10 +1,18 @@
 -- `timing::order::mark_blocks` meets its contract. Invariant: the blocks that are left amount to all.
-use mathlib.Core.Path.{◌∙◌}
+use mathlib.Core.Path.{refl, ◌∙◌}
+use native.Mathlib.Omega.{arith}
 use Rattle.timing.specs.AnswerSteps.{mark_turn, mark_end}
+use Rattle.timing.specs.Passing.{passing_from, passing_on, passing_ends}
 use Rattle.timing.proofs.order.mark_blocks.Goals as goal
 
-pub loop-i-preserved : goal.loop-i-preserved
-loop-i-preserved c = mark_turn c.args.listed.now c.loop-i.i c.loop-i.places c.loop-i-test.true c.wide-node.ensures c.store.ensures ∙ c.loop-i.invariant
+pub loop-block-init : goal.loop-block-init
+loop-block-init c =
+    passing_from 0 c.into_iter-block-iterator.ensures.into_iter_gives c.chunks_exact-block-items.ensures.size c.chunks_exact-block-items.ensures.rest refl
+
+pub loop-block-preserved : goal.loop-block-preserved
+loop-block-preserved c =
+    passing_on c.loop-block.invariant (omega arith) c.next.new.self c.in-Some.block c.in-Some.ensures.steps (λ i l r p. mark_turn c.args.listed.now i c.loop-block.places l (c.wide.ensures ∙ r 0 (omega arith)) c.store.ensures ∙ p)
 
 pub returns : goal.returns
-returns c = mark_end c.args.listed.now c.loop-i.i c.loop-i.places c.loop-i-test.false ∙ c.loop-i.invariant
+returns c =
+    passing_ends c.loop-block.invariant (omega arith) c.next.new.self c.in-None.ensures.steps (λ i l p. mark_end c.args.listed.now i c.loop-block.places l ∙ p)

@@ -13,7 +13,7 @@ use Rattle.files.specs.declared.merge.Both.{Both}
 use Rattle.files.proofs.merge.Both.answer.Goals as goal
 use Rattle.files.proofs.merge.Both.answer.Goals.{After-size-size}
 
-abbrev both : (s : Both) → BothLaid s.first.bytes.now s.second.bytes.now s.first.blocks s.first.wires s.second.blocks s.second.wires
+abbrev both : (s : Both) → BothLaid s.first.bytes.now s.second.bytes.now s.first.shape.blocks s.first.shape.wires s.second.shape.blocks s.second.shape.wires
 both s = record { one = s.first.laid; two = s.second.laid }
 
 short : (s : Both) → length (merged_file s.first.bytes.now s.second.bytes.now) ≤ 41984
@@ -39,9 +39,9 @@ pub new-file-requires : goal.new-file-requires
 new-file-requires c =
     let s = c.args.self in
     let l = result_laid (both s) s.few s.first.small s.second.small in
-    subst (λ b. Laid b c.blocks-2.result c.wires.result) (sym (taken (goal.at.new-file-requires c).After-size-size))
-    (subst (λ (n : ℕ). Laid (merged_file s.first.bytes.now s.second.bytes.now) n c.wires.result) (sym c.blocks-2.ensures)
-    (subst (λ (n : ℕ). Laid (merged_file s.first.bytes.now s.second.bytes.now) (s.first.blocks + s.second.blocks) n) (sym c.wires.ensures) l))
+    subst (λ b. Laid b c.shape.result.blocks c.shape.result.wires) (sym (taken (goal.at.new-file-requires c).After-size-size))
+    (subst (λ (n : ℕ). Laid (merged_file s.first.bytes.now s.second.bytes.now) n c.shape.result.wires) (sym c.shape.ensures.0)
+    (subst (λ (n : ℕ). Laid (merged_file s.first.bytes.now s.second.bytes.now) (s.first.shape.blocks + s.second.shape.blocks) n) (sym c.shape.ensures.1) l))
 
 pub returns : goal.returns
 returns c = c.build_answer.ensures ∙ ap (load_answer One) (c.new-file.ensures ∙ taken (goal.at.returns c).After-size-size)

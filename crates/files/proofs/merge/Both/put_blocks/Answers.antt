@@ -16,7 +16,7 @@ returns c =
     let s = c.args.self in
     let f = block_read s.first.bytes.now in
     let g = block_read s.second.bytes.now in
-    let t = both_taken f g s.first.blocks s.second.blocks _ c.args.numbers.now c.blocks-count.ensures c.read_blocks.ensures c.read_blocks-2.ensures in
-    let e = ap (λ (l : List ℕ). units_for (length l)) t ∙ ap units_for (both_long f g s.first.blocks s.second.blocks) in
-    let r = ap (map record_of) t ∙ both_block_records s.first.bytes.now s.second.bytes.now s.first.small s.second.small s.first.blocks s.second.blocks s.first.laid.blocks_are s.second.laid.blocks_are in
+    let t = both_taken f g s.first.shape.blocks s.second.shape.blocks _ c.args.numbers.now c.shape-count.ensures.0 c.read_blocks.ensures c.read_blocks-2.ensures in
+    let e = ap (λ (l : List ℕ). units_for (length l)) t ∙ ap units_for (both_long f g s.first.shape.blocks s.second.shape.blocks) in
+    let r = ap (map record_of) t ∙ both_block_records s.first.bytes.now s.second.bytes.now s.first.small s.second.small s.first.shape.blocks s.second.shape.blocks s.first.laid.blocks_are s.second.laid.blocks_are in
     (omega (arith, c.put_units.ensures.0, e), c.put_units.ensures.1 ∙ ap (λ (l : List Record). sets c.args.buffer.now 0 (units_of 1 l)) r)

@@ -7,4 +7,4 @@ use Rattle.files.proofs.merge.Both.size.Goals as goal
 pub returns : goal.returns
 returns c =
     let s = c.args.self in
-    c.file_length.ensures ∙ ((λ i. file_length (c.blocks-2.ensures i) (c.wires.ensures i)) ∙ sym (result_length (record { one = s.first.laid; two = s.second.laid })))
+    c.file_length.ensures ∙ ((λ i. file_length (c.shape-shape.ensures.0 i) (c.shape-shape.ensures.1 i)) ∙ sym (result_length (record { one = s.first.laid; two = s.second.laid })))

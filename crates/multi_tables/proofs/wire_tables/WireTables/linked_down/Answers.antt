@@ -8,7 +8,7 @@ use Rattle.multi_tables.specs.FanOutScanSteps.{down_none, down_next}
 use Rattle.multi_tables.proofs.wire_tables.WireTables.linked_down.Goals as goal
 
 pub loop-k-init : goal.loop-k-init
-loop-k-init c = (omega arith, down_none _ _, down_start _ _ _ _ c.capped-most.ensures)
+loop-k-init c = (omega arith, down_none _ _, down_start _ _ _ _ c.min-most.ensures)
 
 pub returns-then-at-owner : goal.returns-then-at-owner
 returns-then-at-owner c =

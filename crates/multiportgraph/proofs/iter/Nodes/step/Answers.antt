@@ -1,27 +1,44 @@
--- `multiportgraph::iter::Nodes::step` meets its contract. Invariant: the blocks from `n` on are those from the front on.
-use mathlib.Core.Path.{◌≡◌, refl, sym, ◌∙◌}
-use borrow.Author.Rules.{rules}
+-- `multiportgraph::iter::Nodes::step` meets its contract: what `find` gives is the first block that is left.
+use mathlib.Core.Path.{refl, sym, ◌∙◌}
+use Rattle.std.specs.Prelude.{get_or, Some, None}
+use Rattle.std.proofs.Common.{rules, ◌≡◌, ◌-◌, Bool, true, false, length}
+use Rattle.std.proofs.lemmas.Iterator.{first_from_Range}
+use borrow.Author.Tests.{tests}
+use Rattle.port_tables.specs.Entries.{fresh_slot}
+use Rattle.port_tables.specs.Limits.{node_slots}
+use Rattle.port_tables.specs.Lists.{range, filter, on_first}
 use Rattle.port_tables.specs.TableSteps.{with_numbers}
+use Rattle.multi_tables.specs.Forms.{flag_at}
 use Rattle.multiportgraph.specs.Wires.{is_block}
 use Rattle.multiportgraph.specs.WalkNumbers.{nodes_values}
-use Rattle.multiportgraph.specs.WalkSteps.{block_told, search_turn, nodes_front_gone, nodes_back_gone, nodes_item, nodes_none}
+use Rattle.multiportgraph.specs.WalkScans.{block_slot}
+use Rattle.multiportgraph.specs.RangeSearches.{found_first}
+use Rattle.multiportgraph.specs.WalkSteps.{block_told, nodes_item, nodes_none}
 use Rattle.multiportgraph.proofs.iter.Nodes.step.Goals as goal
-use Rattle.multiportgraph.proofs.iter.Nodes.step.Goals.{After-is_block}
+use Rattle.multiportgraph.proofs.iter.Nodes.step.Goals.{After-find}
 
-block_is : (c : After-is_block) → is_block c.args.graph c.loop-n.n ≡ c.is_block.result
-block_is c = sym (block_told c.args.graph c.loop-n.n _ _ c.node_slots-slots.ensures (search rules) c.flagged.ensures c.is_block.ensures)
+long : (c : After-find) → length c.args.graph.copy_node ≡ node_slots
+long c = search rules
 
-pub returns-then-is_block : goal.returns-then-is_block
-returns-then-is_block c = with_numbers nodes_values (nodes_item c.args.graph c.args.self c.args.self.front c.end_before-end.result (sym c.node_held.ensures ∙ c.if-node_held.true) (sym c.node_held-then-node_held.ensures ∙ c.if-node_held-2.true) refl c.end_before-end.ensures.0 c.loop-n.n c.loop-n.invariant c.loop-n-test.true (block_is (goal.at.returns-then-is_block c).After-is_block ∙ c.if-is_block.true))
+told : (c : After-find) (n : _) (b : Bool) → block_slot (get_or c.node_slots-slots.result n fresh_slot).entry (flag_at c.args.graph.copy_node node_slots n) ≡ b → is_block c.args.graph n ≡ b
+told c n b e = sym (block_told c.args.graph n _ _ c.node_slots-slots.ensures (long c) refl refl) ∙ e
 
-pub loop-n-preserved : goal.loop-n-preserved
-loop-n-preserved c = search_turn (is_block c.args.graph) c.loop-n.n c.end_before-end.result c.loop-n-test.true (block_is (goal.at.loop-n-preserved c).After-is_block ∙ c.if-is_block.false) ∙ c.loop-n.invariant
+searched : (c : After-find) → c.find.result ≡ on_first None Some (filter (is_block c.args.graph) (range c.wide.result (c.end_before-end.result - c.wide.result)))
+searched c =
+    (found_first _ _ _ _
+    (first_from_Range _ _ _ _ (λ n. is_block c.args.graph n ≡ true) (λ n. is_block c.args.graph n ≡ false) c.find.ensures.ran
+    (λ x q k. told c x true (search (rules, tests)))
+    (λ x q k.
+    let h : (q ≡ _) × (block_slot (get_or c.node_slots-slots.result x fresh_slot).entry (flag_at c.args.graph.copy_node node_slots x) ≡ false) = search (rules, tests) in
+    (h.0, told c x false h.1)))).0
 
-pub returns-after-loop-n : goal.returns-after-loop-n
-returns-after-loop-n c = with_numbers nodes_values (nodes_none c.args.graph c.args.self c.args.self.front c.end_before-end.result (sym c.node_held.ensures ∙ c.if-node_held.true) (sym c.node_held-then-node_held.ensures ∙ c.if-node_held-2.true) refl c.end_before-end.ensures.0 c.loop-n.n c.loop-n.invariant c.loop-n-test.false)
+pub returns-in_err-n : goal.returns-in_err-n
+returns-in_err-n c =
+    rw c.from_residual.ensures
+    (with_numbers nodes_values (nodes_none c.args.graph c.args.self c.wide.result c.end_before-end.result (sym c.node_held.ensures ∙ c.if-not-node_held.false) (sym c.node_held-else-not-node_held.ensures ∙ c.if-not-node_held-2.false) c.wide.ensures c.end_before-end.ensures.0
+    (sym c.in_err-n.was ∙ searched (goal.at.returns-in_err-n c).After-find)))
 
-pub returns-else-node_held-2 : goal.returns-else-node_held-2
-returns-else-node_held-2 c = with_numbers nodes_values (nodes_back_gone c.args.graph c.args.self (sym c.node_held.ensures ∙ c.if-node_held.true) (sym c.node_held-then-node_held.ensures ∙ c.if-node_held-2.false))
-
-pub returns-else-node_held : goal.returns-else-node_held
-returns-else-node_held c = with_numbers nodes_values (nodes_front_gone c.args.graph c.args.self (sym c.node_held.ensures ∙ c.if-node_held.false))
+pub returns : goal.returns
+returns c =
+    with_numbers nodes_values (nodes_item c.args.graph c.args.self c.wide.result c.end_before-end.result (sym c.node_held.ensures ∙ c.if-not-node_held.false) (sym c.node_held-else-not-node_held.ensures ∙ c.if-not-node_held-2.false) c.wide.ensures c.end_before-end.ensures.0
+    c.in_ok-n.n (sym c.in_ok-n.was ∙ searched (goal.at.returns c).After-find))

@@ -7,8 +7,5 @@ use Rattle.multiportgraph.proofs.list_ends.ListTables.list_blocks.Goals as goal
 pub returns-then-list-needed : goal.returns-then-list-needed
 returns-then-list-needed c = list_short (table_blocks c.args.self.nodes.now c.args.self.wires.flags.now c.args.self.len) _ c.args.count _ c.requires.1 c.if-list-needed.true
 
-pub list_slots-requires : goal.list_slots-requires
-list_slots-requires c = (c.requires.0, omega (arith, c.requires.1, c.if-list-needed.false))
-
 pub returns : goal.returns
 returns c = list_full (table_blocks c.args.self.nodes.now c.args.self.wires.flags.now c.args.self.len) _ c.args.count _ (omega (arith, c.requires.1, c.if-list-needed.false)) c.list_slots.ensures

@@ -5,7 +5,7 @@ use Prim.Native.Nat.{ℕ, ◌+◌, ◌≤◌}
 use native.Mathlib.Omega.{arith}
 use lib.ListN.{length}
 use Rattle.multiportgraph.specs.ListScans.{subport_wire, split_wires}
-use Rattle.multiportgraph.specs.ListSteps.{item_fits, item_written, items_written, split_is, written_as}
+use Rattle.multiportgraph.specs.ListSteps.{item_fits, item_room, item_laid, items_written, split_is, written_as}
 use Rattle.port_tables.specs.Lists.{range}
 use Rattle.multiportgraph.proofs.list_ends.ListTables.list_split.Goals as goal
 use Rattle.multiportgraph.proofs.list_ends.ListTables.list_split.Goals.{After-from-count}
@@ -18,17 +18,20 @@ part c = subport_wire c.args.self.nodes.now c.args.self.wires.links.now c.args.s
 whole : (c : After-from-count) → flat_map (part c) (range 0 c.from-count.result) ≡ split_wires c.args.self.nodes.now c.args.self.wires.links.now c.args.self.wires.owners.now c.args.self.wires.flags.now c.args.port.port c.args.port.node c.args.port.position c.args.copy
 whole c = split_is _ _ _ _ _ _ _ c.args.copy _ _ _ c.wide.ensures c.from.ensures c.from-count.ensures
 
-room : (c : After-from-count) → c.args.place + length (flat_map (part c) (range 0 c.from-count.result)) ≤ length c.args.list.now
+room : (c : After-from-count) → 0 + length (flat_map (part c) (range 0 c.from-count.result)) ≤ length c.args.list.now
 room c = let e = ap length (whole c) in omega (arith, e, c.requires)
 
 pub list_slot-next-requires : goal.list_slot-next-requires
 unfolding subport_wire
-list_slot-next-requires c = item_fits (part (goal.at.list_slot-next-requires c).After-from-count) c.loop-offset.invariant c.loop-offset-test.true (room (goal.at.list_slot-next-requires c).After-from-count)
+list_slot-next-requires c = item_room (part (goal.at.list_slot-next-requires c).After-from-count) c.loop-offset.invariant.0 c.loop-offset-test.true (room (goal.at.list_slot-next-requires c).After-from-count)
+
+pub overflow_add-next : goal.overflow_add-next
+unfolding subport_wire
+overflow_add-next c = let f = item_fits (part (goal.at.overflow_add-next c).After-from-count) c.loop-offset.invariant.0 c.loop-offset-test.true (room (goal.at.overflow_add-next c).After-from-count) in omega (arith, c.list_slot-next.ensures.0)
 
 pub loop-offset-preserved : goal.loop-offset-preserved
 unfolding subport_wire
-loop-offset-preserved c =
-    item_written (part (goal.at.loop-offset-preserved c).After-from-count) c.loop-offset.invariant c.loop-offset-test.true c.list_slot-next.ensures.0 c.list_slot-next.ensures.1
+loop-offset-preserved c = item_laid (part (goal.at.loop-offset-preserved c).After-from-count) c.loop-offset.invariant.0 c.loop-offset-test.true (room (goal.at.loop-offset-preserved c).After-from-count) _ _ c.list_slot-next.ensures
 
 pub returns : goal.returns
-returns c = written_as _ _ _ _ (whole (goal.at.returns c).After-from-count) (items_written (part (goal.at.returns c).After-from-count) c.loop-offset.invariant c.loop-offset-test.false)
+returns c = written_as _ _ _ (whole (goal.at.returns c).After-from-count) (items_written (part (goal.at.returns c).After-from-count) c.loop-offset.invariant.0 c.loop-offset-test.false)

@@ -1,19 +1,39 @@
 -- `multiportgraph::MultiPortGraph::copies_dropped` meets its contract: the incoming side's hidden nodes, then the outgoing side's.
-use Prim.Native.Nat.{◌+◌, ◌-◌}
+use mathlib.Core.Path.{ap, ◌∙◌}
+use Prim.Native.Nat.{ℕ, ◌+◌, ◌-◌, ◌≤◌}
 use native.Mathlib.Omega.{arith}
-use Rattle.multiportgraph.specs.BlockSteps.{copies_few, dropped_listed}
+use lib.ListN.{length}
+use Rattle.std.proofs.lemmas.List.{take_rest}
+use Rattle.std.proofs.Common.{length-drop}
+use Rattle.std.proofs.Math.Seq.{length-sets}
+use Rattle.multiportgraph.specs.HiddenNodes.{copies_in}
+use Rattle.multiportgraph.specs.BlockSteps.{dropped_listed}
+use Rattle.multiportgraph.specs.ListSteps.{part_laid}
 use Rattle.multiportgraph.proofs.multiportgraph.MultiPortGraph.copies_dropped.Goals as goal
+use Rattle.multiportgraph.proofs.multiportgraph.MultiPortGraph.copies_dropped.Goals.{After-copies_in-middle}
+
+-- the second side fits behind the first
+room : (c : After-copies_in-middle) → c.copies_in-middle.result + (c.from-old_out.result - c.kept_outgoing-kept_out.result) ≤ length c.copies_in-middle.new.list
+room c =
+    let size = ap length c.copies_in-middle.ensures.1 ∙ length-sets c.args.list.now 0 (copies_in c.args.self (c.wide-first.result + c.kept_incoming-kept_in.result) (c.from-old_in.result - c.kept_incoming-kept_in.result)) in
+    omega (arith, c.from-old_in.ensures, c.from-old_out.ensures, c.copies_in-middle.ensures.2, size, c.requires.1, c.requires.0.small, c.requires.0.ports)
 
 pub copies_in-requires : goal.copies_in-requires
 copies_in-requires c =
-    let few = copies_few c.args.self (c.wide-first.result + c.min-kept_in.result) (c.from-old_in.result - c.min-kept_in.result) in
-    omega (arith, c.wide-first.ensures, c.from-old_in.ensures, c.from-old_out.ensures, c.min-kept_in.ensures, c.min-kept_out.ensures, c.copies_in-middle.ensures.0, few, c.requires.ends, c.requires.ports, c.requires.small)
+    let fits = room (goal.at.copies_in-requires c).After-copies_in-middle in
+    let rest = length-drop c.copies_in-middle.result c.copies_in-middle.new.list in (
+      omega (arith, c.wide-first.ensures, c.from-old_in.ensures, c.from-old_out.ensures, c.kept_outgoing-kept_out.ensures, c.requires.0.ends, c.requires.0.ports),
+      rw (take_rest c.copies_in-middle.new.list c.copies_in-middle.result) (omega (arith, fits, rest)),
+    )
 
 pub returns : goal.returns
 returns c =
-    dropped_listed c.args.self c.args.meta c.args.counts.incoming c.args.counts.outgoing c.wide-first.result c.from-old_in.result c.from-old_out.result
-    c.min-kept_in.result c.min-kept_out.result c.copies_in-middle.result c.copies_in.result c.args.list.now _ _
+    let fits = room (goal.at.returns c).After-copies_in-middle in
+    let part = copies_in c.args.self (c.wide-first.result + c.from-old_in.result + c.kept_outgoing-kept_out.result) (c.from-old_out.result - c.kept_outgoing-kept_out.result) in
+    dropped_listed c.args.self c.args.resize.meta c.args.resize.incoming c.args.resize.outgoing c.wide-first.result c.from-old_in.result c.from-old_out.result
+    c.kept_incoming-kept_in.result c.kept_outgoing-kept_out.result c.copies_in-middle.result _ c.args.list.now _ _
     c.wide-first.ensures c.from-old_in.ensures c.from-old_out.ensures
-    c.min-kept_in.ensures c.min-kept_out.ensures
-    c.copies_in-middle.ensures.0 c.copies_in-middle.ensures.1
-    c.copies_in.ensures.0 c.copies_in.ensures.1
+    c.kept_incoming-kept_in.ensures c.kept_outgoing-kept_out.ensures
+    (omega (arith, c.copies_in-middle.ensures.0)) c.copies_in-middle.ensures.1
+    (ap (λ (k : ℕ). c.copies_in-middle.result + k) c.copies_in.ensures.0)
+    (part_laid c.copies_in-middle.new.list part c.copies_in.new.list c.copies_in-middle.result (let n = c.copies_in.ensures.2 in let e = c.copies_in.ensures.0 in omega (arith, fits, n, e)) c.copies_in.ensures.1)

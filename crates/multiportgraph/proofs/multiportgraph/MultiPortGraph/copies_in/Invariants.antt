@@ -7,5 +7,5 @@ use Rattle.multiportgraph.specs.HiddenNodes.{copies_in}
 use Rattle.multiportgraph.proofs.multiportgraph.MultiPortGraph.copies_in.Given as goal
 
 abbrev pub invariant-loop-k : goal.invariant-loop-k
-invariant-loop-k l = (l.place ≤ l.at + l.k) × (l.place + length (copies_in l.self (l.first + l.k) (l.count - l.k)) ≡ l.at + length (copies_in l.self l.first l.count))
-    × (sets l.list l.place (copies_in l.self (l.first + l.k) (l.count - l.k)) ≡ sets l.initial.list l.at (copies_in l.self l.first l.count))
+invariant-loop-k l = (l.place ≤ 0 + l.k) × (l.place + length (copies_in l.fn.self (l.first + l.k) (l.count - l.k)) ≡ 0 + length (copies_in l.fn.self l.first l.count))
+    × (sets l.list l.place (copies_in l.fn.self (l.first + l.k) (l.count - l.k)) ≡ sets l.initial.list 0 (copies_in l.fn.self l.first l.count))

@@ -9,7 +9,6 @@ use Rattle.multi_tables.specs.TableReadSteps.{subports_bound}
 use Rattle.multiportgraph.specs.TableSteps.{Growing, counts_grown, growing_read, grow_full, grow_told, grow_done}
 use Rattle.multiportgraph.specs.GrowLaws.{GrowTables, by_first}
 use Rattle.multiportgraph.specs.Reading.{copy_node}
-use Rattle.multiportgraph.proofs.RefusedTags.{set_refused_tag, set_tag}
 use Rattle.multiportgraph.proofs.multiportgraph.MultiPortGraph.grow.Goals as goal
 use Rattle.multiportgraph.proofs.multiportgraph.MultiPortGraph.grow.Goals.{After-hidden_copy-hidden, In-Ok}
 
@@ -28,8 +27,7 @@ overflow_add-hidden c = let h = count_fits (goal.at.overflow_add-hidden c).After
 
 pub returns-in_default : goal.returns-in_default
 returns-in_default c =
-    grow_full (growing (goal.at.returns-in_default c).After-hidden_copy-hidden) (counts_grown _ _ c.hidden_counts-incoming.ensures).0 (counts_grown _ _ c.hidden_counts-incoming.ensures).1 refl c.resized-sized.ensures
-    set_tag (λ e. refl) (set_refused_tag _ c.in_default.not-Ok)
+    grow_full (growing (goal.at.returns-in_default c).After-hidden_copy-hidden) (counts_grown _ _ c.hidden_counts-incoming.ensures).0 (counts_grown _ _ c.hidden_counts-incoming.ensures).1 refl c.resized-sized.ensures c.in_default.not-Ok
 
 pub grow_by-requires : goal.grow_by-requires
 grow_by-requires c = (c.requires.block.wf, let f = (told (goal.at.grow_by-requires c).In-Ok).few in omega arith)

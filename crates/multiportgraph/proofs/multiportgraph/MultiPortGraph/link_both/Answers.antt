@@ -5,24 +5,15 @@ use mathlib.Core.Path.{sym, ◌∙◌, ap}
 use Rattle.multiportgraph.specs.Cases.{link_second, link_live}
 use Rattle.multiportgraph.specs.HiddenNodes.{prepare}
 use Rattle.multiportgraph.specs.Presumed.{OnBlock}
-use Rattle.multiportgraph.specs.LinkSteps.{is_ready, others_stay, still_wf, both_full, second_full}
+use Rattle.multiportgraph.specs.LinkSteps.{is_ready, others_stay, still_wf}
 use Rattle.multiportgraph.proofs.multiportgraph.MultiPortGraph.link_both.Goals as goal
 use Rattle.multiportgraph.proofs.multiportgraph.MultiPortGraph.link_both.Goals.{In-Some}
 
 second-stays : (c : In-Some) → OnBlock c.prepare-first.result.graph c.args.b.port c.args.b.side
 second-stays c = others_stay c.requires.first c.prepare-first.result c.prepare-first.ensures c.in-Some.is _ _ c.requires.second
 
-pub prepare-first-requires : goal.prepare-first-requires
-prepare-first-requires c = c.requires.first
-
-pub returns-in_default : goal.returns-in_default
-returns-in_default c = both_full c.args.self c.args.a.port c.args.a.side c.args.b.port c.args.b.side c.prepare-first.result c.prepare-first.ensures c.in_default.is c.link_refused.ensures
-
 pub prepare-second-requires : goal.prepare-second-requires
 prepare-second-requires c = second-stays (goal.at.prepare-second-requires c).In-Some
-
-pub returns-in_default-end : goal.returns-in_default-end
-returns-in_default-end c = second_full c.args.self c.args.a.port c.args.a.side c.args.b.port c.args.b.side c.prepare-first.result c.prepare-first.ensures c.in-Some.is c.prepare-second.result c.prepare-second.ensures c.in_default-end.is c.link_refused-in_default-end.ensures
 
 pub link_prepared-requires : goal.link_prepared-requires
 link_prepared-requires c = still_wf (second-stays (goal.at.link_prepared-requires c).In-Some) c.prepare-second.result c.prepare-second.ensures c.in-Some-end.is

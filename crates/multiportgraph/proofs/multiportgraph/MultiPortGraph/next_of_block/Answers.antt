@@ -1,18 +1,11 @@
 -- `multiportgraph::multiportgraph::MultiPortGraph::next_of_block` meets its contract: a node that is refused, a port held that is gone or hidden, and a scan.
 use mathlib.Core.Path.{sym, ◌∙◌}
-use native.Mathlib.Omega.{arith}
-use Rattle.multiportgraph.specs.WalkSteps.{both_refused, both_found}
-use Rattle.multiportgraph.specs.LinkWalkSteps.{left_gone, left_found}
+use Rattle.multiportgraph.specs.LinkWalkSteps.{left_found}
 use Rattle.port_tables.specs.Lists.{filter}
 use Rattle.multi_tables.specs.Scans.{first_found, passes_in, beyond_in}
 use Rattle.multiportgraph.specs.OwnTables.{read_off}
+use Rattle.multi_tables.specs.NamedEndSteps.{ok_told}
 use Rattle.multiportgraph.proofs.multiportgraph.MultiPortGraph.next_of_block.Goals as goal
 
-pub returns-in_default : goal.returns-in_default
-returns-in_default c = (left_gone c.args.self c.args.node.0 c.args.sides c.args.filter c.args.held.port c.args.held.offset (both_refused c.args.self c.args.node.0 _ c.args.held.port (sym c.block-block.ensures ∙ c.in_default.is)), omega arith)
-
-pub returns-then-held_seen : goal.returns-then-held_seen
-returns-then-held_seen c = (left_found c.args.self c.args.node.0 c.args.sides c.args.filter c.args.held.port c.args.held.offset c.requires _ (sym c.block-block.ensures ∙ c.in-Ok.is) (sym c.held_seen.ensures ∙ c.if-held_seen.true) _ _ _ c.ports_from.ensures c.ports_to.ensures (c.next_beyond.ensures.0 ∙ read_off c.args.self (λ a b o f. first_found (filter (λ w. passes_in o f c.args.filter w.to.port.0) (beyond_in a b o f c.ports_from.result c.ports_to.result c.args.held.port c.args.held.offset))) c.wire_tables.ensures), c.next_beyond.ensures.1)
-
 pub returns : goal.returns
-returns c = (left_gone c.args.self c.args.node.0 c.args.sides c.args.filter c.args.held.port c.args.held.offset (both_found c.args.self c.args.node.0 _ c.args.held.port _ c.requires (sym c.block-block.ensures ∙ c.in-Ok.is) (sym c.held_seen.ensures ∙ c.if-held_seen.false)), omega arith)
+returns c = (left_found c.args.self c.args.node.0 c.args.sides c.args.filter c.args.held.port c.args.held.offset c.requires _ (sym c.block.ensures ∙ ok_told _ _ c.ok.ensures.value c.in_ok-meta.was) (sym c.held_seen.ensures ∙ c.if-not-held_seen.false) _ _ _ c.ports_from.ensures c.ports_to.ensures (c.next_beyond.ensures.0 ∙ read_off c.args.self (λ a b o f. first_found (filter (λ w. passes_in o f c.args.filter w.to.port.0) (beyond_in a b o f c.ports_from.result c.ports_to.result c.args.held.port c.args.held.offset))) c.wire_tables.ensures), c.next_beyond.ensures.1)

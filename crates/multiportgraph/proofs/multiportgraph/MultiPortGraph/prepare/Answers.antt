@@ -1,7 +1,6 @@
 -- `multiportgraph::multiportgraph::MultiPortGraph::prepare` meets its contract: an end that is ready, one more subport, and a split.
-use mathlib.Core.Path.{refl, sym, ◌∙◌}
-use Rattle.multiportgraph.specs.NamedLaws.{prepared_by_lem, grow_needs, split_needs}
-use Rattle.multi_tables.specs.declared.named.EndNeed.TheVariants as variant
+use mathlib.Core.Path.{sym, ◌∙◌}
+use Rattle.multiportgraph.specs.NamedLaws.{grow_needs, split_needs}
 use Rattle.multi_tables.specs.NamedEnds.{end_need_in}
 use Rattle.multiportgraph.specs.OwnTables.{read_off}
 use Rattle.multiportgraph.proofs.multiportgraph.MultiPortGraph.prepare.Goals as goal
@@ -11,12 +10,3 @@ grow-requires c = grow_needs c.requires (sym (c.need_in.ensures ∙ read_off c.a
 
 pub split-requires : goal.split-requires
 split-requires c = split_needs c.requires (sym (c.need_in.ensures ∙ read_off c.args.self (λ a b o f. end_need_in a b o c.args.port.port c.args.port.side) c.wire_tables.ensures) ∙ c.in-Split.is)
-
-pub returns-in-Ready : goal.returns-in-Ready
-returns-in-Ready c = prepared_by_lem c.requires {u = variant.Ready _ _} (c.need_in.ensures ∙ read_off c.args.self (λ a b o f. end_need_in a b o c.args.port.port c.args.port.side) c.wire_tables.ensures) c.in-Ready.is refl
-
-pub returns-in-Grow : goal.returns-in-Grow
-returns-in-Grow c = prepared_by_lem c.requires {u = variant.Grow} (c.need_in.ensures ∙ read_off c.args.self (λ a b o f. end_need_in a b o c.args.port.port c.args.port.side) c.wire_tables.ensures) c.in-Grow.is c.grow.ensures
-
-pub returns-in-Split : goal.returns-in-Split
-returns-in-Split c = prepared_by_lem c.requires {u = variant.Split} (c.need_in.ensures ∙ read_off c.args.self (λ a b o f. end_need_in a b o c.args.port.port c.args.port.side) c.wire_tables.ensures) c.in-Split.is c.split.ensures

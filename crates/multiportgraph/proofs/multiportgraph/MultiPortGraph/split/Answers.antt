@@ -14,7 +14,6 @@ use Rattle.multi_tables.specs.TableReads.{copy_at, subports_at}
 use Rattle.multiportgraph.specs.PrepareSteps.{lower_wf, few_copies, few_subs, split_full}
 use Rattle.multiportgraph.specs.SplitLaws.{SplitTables}
 use Rattle.multiportgraph.specs.TableSteps.{split_told, split_called}
-use Rattle.multiportgraph.proofs.RefusedTags.{add_refused_tag, add_tag}
 use Rattle.multiportgraph.proofs.multiportgraph.MultiPortGraph.split.Goals as goal
 use Rattle.multiportgraph.proofs.multiportgraph.MultiPortGraph.split.Goals.{In-Ok}
 
@@ -32,8 +31,7 @@ told c = split_told c.requires c.new-shape.ensures.0 c.new-shape.ensures.1 c.add
 
 pub returns-in_default : goal.returns-in_default
 returns-in_default c =
-    split_full c.args.self c.args.port.port c.args.port.side c.new-shape.ensures.0 c.new-shape.ensures.1 c.add_node-added.ensures.0
-    add_tag (λ n f. refl) (add_refused_tag _ (λ n f. c.in_default.not-Ok (n, f)))
+    split_full c.args.self c.args.port.port c.args.port.side c.new-shape.ensures.0 c.new-shape.ensures.1 c.add_node-added.ensures.0 c.in_default.not-Ok
 
 pub overflow_add-copy : goal.overflow_add-copy
 overflow_add-copy c = let f = (told (goal.at.overflow_add-copy c).In-Ok).fits in let b = copy_small c.args.port.side in omega (arith, c.new-shape.ensures.2)

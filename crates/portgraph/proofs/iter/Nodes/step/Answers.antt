@@ -1,24 +1,30 @@
--- `portgraph::iter::Nodes::step` meets its contract. Invariant: the search from `n` on finds what the search from the cursor on finds.
+-- `portgraph::iter::Nodes::step` meets its contract: what `find` gives is what the search finds.
 use mathlib.Core.Path.{sym, ◌∙◌}
-use Rattle.portgraph.specs.WalkLaws.{search_turn, search_found, search_done, step_where_gone}
-use Rattle.portgraph.specs.Walks.{nodes_step_numbers}
+use Rattle.std.proofs.Common.{rules, ◌≡◌, ◌-◌, true, false, add-one}
+use Rattle.std.proofs.lemmas.Iterator.{first_from_Range}
+use borrow.Author.Tests.{tests}
+use Rattle.port_tables.specs.Limits.{node_slots}
 use Rattle.port_tables.specs.TableSteps.{with_numbers}
+use Rattle.portgraph.specs.LinkWalks.{before, first_where}
+use Rattle.portgraph.specs.LinkWalkSteps.{found_where, node_hit, nodes_given}
+use Rattle.portgraph.specs.WalkLaws.{step_where_gone}
+use Rattle.portgraph.specs.Walks.{nodes_step_numbers}
 use Rattle.portgraph.proofs.iter.Nodes.step.Goals as goal
+use Rattle.portgraph.proofs.iter.Nodes.step.Goals.{After-find}
 
-pub returns-then-is_node : goal.returns-then-is_node
-returns-then-is_node c =
-    with_numbers nodes_step_numbers
-    (search_found _ _ c.loop-n.n (sym c.node_held.ensures ∙ c.if-node_held.true) c.loop-n.invariant c.loop-n-test.true
-    (sym c.is_node.ensures ∙ c.if-is_node.true))
+searched : (c : After-find) → c.find.result ≡ before node_slots (first_where (node_hit c.args.graph.node_meta) c.args.self.held (node_slots - c.args.self.held))
+searched c =
+    rw (← c.wide.ensures)
+    (found_where _ _ _ _
+    (first_from_Range _ _ _ _ (λ n. node_hit c.args.graph.node_meta n ≡ true) (λ n. node_hit c.args.graph.node_meta n ≡ false) c.find.ensures.ran (λ x q k. search (rules, tests)) (λ x q k. search (rules, tests))))
 
-pub loop-n-preserved : goal.loop-n-preserved
-loop-n-preserved c =
-    search_turn _ c.loop-n.n c.loop-n-test.true (sym c.is_node.ensures ∙ c.if-is_node.false) ∙ c.loop-n.invariant
+pub returns-then-not-node_held : goal.returns-then-not-node_held
+returns-then-not-node_held c = with_numbers nodes_step_numbers (sym (step_where_gone _ _ (sym c.node_held.ensures ∙ c.if-not-node_held.true)))
 
-pub returns-after-loop-n : goal.returns-after-loop-n
-returns-after-loop-n c =
-    with_numbers nodes_step_numbers
-    (search_done _ _ c.loop-n.n (sym c.node_held.ensures ∙ c.if-node_held.true) c.loop-n.invariant c.loop-n-test.false)
+pub returns-in_err-n : goal.returns-in_err-n
+returns-in_err-n c =
+    rw c.from_residual.ensures
+    (with_numbers nodes_step_numbers (nodes_given _ _ _ (sym c.node_held.ensures ∙ c.if-not-node_held.false) (sym c.in_err-n.was ∙ searched (goal.at.returns-in_err-n c).After-find)))
 
-pub returns-else-node_held : goal.returns-else-node_held
-returns-else-node_held c = with_numbers nodes_step_numbers (sym (step_where_gone _ _ (sym c.node_held.ensures ∙ c.if-node_held.false)))
+pub returns : goal.returns
+returns c = with_numbers nodes_step_numbers (rw add-one (nodes_given _ _ _ (sym c.node_held.ensures ∙ c.if-not-node_held.false) (sym c.in_ok-n.was ∙ searched (goal.at.returns c).After-find)))

@@ -1,38 +1,26 @@
--- `portgraph::link_iter::NodeLinks::step` meets its contract: an item, none left, and no such node.
-use mathlib.Core.Path.{refl, sym, ◌∙◌}
-use native.Mathlib.Omega.{arith}
+-- `portgraph::link_iter::NodeLinks::step` meets its contract: an item, none left, and a node or a port that is gone.
+use Rattle.std.proofs.Common.{add-one}
 use Rattle.port_tables.specs.TableSteps.{with_numbers}
-use Rattle.portgraph.specs.LinkWalks.{links_numbers}
-use Rattle.portgraph.specs.LinkWalkSteps.{left_inside, stopped, not_stopped, links_outside, links_by_search, links_given, links_over}
+use Rattle.portgraph.specs.LinkWalks.{links_item, step_links, links_numbers}
+use Rattle.portgraph.specs.LinkWalkSteps.{left_fits, step_gone, step_over, step_given}
 use Rattle.portgraph.proofs.link_iter.NodeLinks.step.Goals as goal
 
-pub overflow_cast-result : goal.overflow_cast-result
-overflow_cast-result c =
-    let inside = left_inside _ c.requires _ _ _ _ _ c.ports_left-left.ensures in
-    let here = stopped _ _ _ (sym c.next_link.ensures ∙ c.in_ok-port.was) in
-    omega arith
+pub ports_left-left-requires : goal.ports_left-left-requires
+ports_left-left-requires c = left_fits c.args.graph c.requires _ _ _ c.node_left.ensures c.in_ok-meta.was
 
-pub overflow_cast-result-then-place-lt-NODE_SLOTS : goal.overflow_cast-result-then-place-lt-NODE_SLOTS
-overflow_cast-result-then-place-lt-NODE_SLOTS c =
-    let inside = left_inside _ c.requires _ _ _ _ _ c.ports_left-left.ensures in
-    let here = stopped _ _ _ (sym c.next_link.ensures ∙ c.in_ok-port.was) in
-    omega arith
-
-pub overflow_add-result : goal.overflow_add-result
-overflow_add-result c =
-    let inside = left_inside _ c.requires _ _ _ _ _ c.ports_left-left.ensures in
-    let here = stopped _ _ _ (sym c.next_link.ensures ∙ c.in_ok-port.was) in
-    omega arith
+pub returns-in_err-meta : goal.returns-in_err-meta
+unfolding step_links
+returns-in_err-meta c = rw c.from_residual.ensures (with_numbers links_numbers (step_gone _ _ c.args.graph _ _ _ c.node_left.ensures c.in_err-meta.was))
 
 pub returns-in_err-port : goal.returns-in_err-port
+unfolding step_links
 returns-in_err-port c =
-    let over = not_stopped _ _ (sym c.next_link.ensures ∙ c.in_err-port.was) in
-    rw c.from_residual.ensures (with_numbers links_numbers (links_over _ _ _ _ (links_by_search c.args.graph _ _ _ _ _ _ _ c.wide-place.ensures c.held_in-there.ensures c.ports_left-left.ensures c.wide.ensures c.wide-then-place-lt-NODE_SLOTS.ensures refl) over))
-
-pub returns-then-place-lt-NODE_SLOTS : goal.returns-then-place-lt-NODE_SLOTS
-returns-then-place-lt-NODE_SLOTS c =
-    let here = stopped _ _ _ (sym c.next_link.ensures ∙ c.in_ok-port.was) in
-    with_numbers links_numbers (links_given _ _ _ _ _ (links_by_search c.args.graph _ _ _ _ _ _ _ c.wide-place.ensures c.held_in-there.ensures c.ports_left-left.ensures c.wide.ensures c.wide-then-place-lt-NODE_SLOTS.ensures here.0) here.1 c.far_in.ensures)
+    rw c.from_residual-in_err-port.ensures
+    (with_numbers links_numbers (step_over _ _ c.args.graph _ _ _ c.node_left.ensures _ c.in_ok-meta.was c.ports_left-left.ensures.0 c.next_link.ensures.is c.in_err-port.was))
 
 pub returns : goal.returns
-returns c = with_numbers links_numbers (links_outside c.args.graph _ c.args.self c.requires.holds.nodes_long c.wide-place.ensures c.if-place-lt-NODE_SLOTS.false)
+unfolding step_links
+returns c =
+    with_numbers links_numbers
+    (rw (add-one, c.far_in.ensures)
+    (step_given (links_item c.args.graph c.args.self) _ c.args.graph _ _ _ c.node_left.ensures _ c.in_ok-meta.was c.ports_left-left.ensures.0 c.next_link.ensures.is _ c.in_ok-port.was))

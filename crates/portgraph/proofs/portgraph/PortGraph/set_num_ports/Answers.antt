@@ -6,19 +6,20 @@ use borrow.Author.Tests.{ltb-false}
 use Rattle.port_tables.specs.Limits.{node_ports}
 use Rattle.portgraph.specs.Lookups.{entry_at}
 use Rattle.portgraph.specs.WfFacts.{block_fits, port_len_fits}
-use Rattle.portgraph.specs.ResizeSteps.{round_up_fits, entry_at_lem, fits_below}
+use Rattle.portgraph.specs.LookupSteps.{entry_of_meta}
+use Rattle.portgraph.specs.ResizeSteps.{round_up_fits, fits_below}
 use Rattle.port_tables.specs.declared.node_entry.NodeEntry.TheVariants as node_variants
 use Rattle.portgraph.proofs.portgraph.PortGraph.set_num_ports.Goals as goal
-use Rattle.portgraph.proofs.portgraph.PortGraph.set_num_ports.Goals.{In-Node}
+use Rattle.portgraph.proofs.portgraph.PortGraph.set_num_ports.Goals.{In-Some}
 
-live : (c : In-Node) → entry_at c.args.self c.args.node.0 ≡ node_variants.Node c.in-Node.meta
-live c = entry_at_lem c.args.self _ _ _ c.wide-place.ensures c.in-Node.is
+live : (c : In-Some) → entry_at c.args.self c.args.node.0 ≡ node_variants.Node c.in-Some.meta
+live c = entry_of_meta _ _ (sym c.in-Some.is ∙ c.meta_of.ensures.is)
 
 pub resize_ports_inplace-requires : goal.resize_ports_inplace-requires
 resize_ports_inplace-requires c =
-    let e = live (goal.at.resize_ports_inplace-requires c).In-Node in
+    let e = live (goal.at.resize_ports_inplace-requires c).In-Some in
     let t = sym c.fits_inside.ensures ∙ c.if-fits_inside.true in
-    (c.requires, omega (arith, c.if-place-ge-NODE_SLOTS.false, c.wide-place.ensures), fits_below c.in-Node.meta _ _ t, block_fits c.args.self c.requires c.args.node.0 c.in-Node.meta e)
+    (c.requires, c.in-Some.ensures.within, fits_below c.in-Some.meta _ _ t, block_fits c.args.self c.requires c.args.node.0 c.in-Some.meta e)
 
 pub find_block-requires : goal.find_block-requires
 find_block-requires c =

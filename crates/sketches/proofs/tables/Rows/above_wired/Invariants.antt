@@ -5,5 +5,5 @@ use Rattle.sketches.specs.Plan.{spot_named, above_wired}
 use Rattle.sketches.specs.Rows.{wires_in}
 use Rattle.sketches.proofs.tables.Rows.above_wired.Given as goal
 
-abbrev pub invariant-loop-i : goal.invariant-loop-i
-invariant-loop-i l = (l.i ≤ l.self.count) × (l.above ≡ above_wired (spot_named l.port) (wires_in l.self.rows l.i))
+abbrev pub invariant-loop-row : goal.invariant-loop-row
+invariant-loop-row l = (l.row-index ≤ l.self.count) × (l.above ≡ above_wired (spot_named l.port) (wires_in l.self.rows l.row-index))

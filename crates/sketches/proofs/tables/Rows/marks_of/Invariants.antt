@@ -5,5 +5,5 @@ use Rattle.sketches.specs.Rows.{wires_in}
 use Rattle.sketches.specs.Offsets.{Marks}
 use Rattle.sketches.proofs.tables.Rows.marks_of.Given as goal
 
-abbrev pub invariant-loop-i : goal.invariant-loop-i
-invariant-loop-i l = (l.i ≤ l.self.count) × Marks (spot_named l.port) (wires_in l.self.rows l.i) l.marks
+abbrev pub invariant-loop-row : goal.invariant-loop-row
+invariant-loop-row l = (l.row-index ≤ l.self.count) × Marks (spot_named l.port) (wires_in l.self.rows l.row-index) l.marks

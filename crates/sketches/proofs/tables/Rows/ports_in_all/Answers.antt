@@ -1,17 +1,18 @@
--- `Rows::ports_in_all` meets its contract. Invariant: the ports of the blocks so far, and a bound on them.
-use mathlib.Core.Path.{refl, sym, ap, ◌∙◌}
-use mathlib.Core.List.{List, map}
-use native.Mathlib.Omega.{arith}
-use Rattle.sketches.specs.Plan.{ports_in_all}
-use Rattle.sketches.specs.Rows.{row_at, rows_in, block_of}
+-- `Rows::ports_in_all` meets its contract: the rows are few, and each has few ports.
+use Rattle.std.proofs.Common.{rules, ◌≡◌, refl, ◌∙◌, arith, ◌+◌, ◌^◌, ◌≤◌, length, take, sum_by, map}
+use Rattle.std.proofs.lemmas.Iterator.{YieldsList-from_slice}
+use Rattle.std.proofs.lemmas.Iterator.Adapters.{fits_from_length, at_most_from_yields_List}
+use Rattle.sketches.specs.Rows.{block_of, row_slots}
+use Rattle.sketches.specs.RowSteps.{ports_taken}
 use Rattle.sketches.specs.declared.rows.Row.{Row}
-use Rattle.sketches.specs.RowSteps.{ports_more, rows_more}
 use Rattle.sketches.proofs.tables.Rows.ports_in_all.Goals as goal
 
-pub loop-i-init : goal.loop-i-init
-unfolding rows_in ports_in_all
-loop-i-init c = (omega arith, omega arith, refl)
+pub sum-requires-clause-fits : goal.sum-requires-clause-fits
+sum-requires-clause-fits c =
+    let few : length (take c.args.self.now.count c.args.self.now.rows) ≤ row_slots = search rules in
+    fits_from_length _ _ row_slots (2 ^ 64) (at_most_from_yields_List (YieldsList-from_slice (take c.args.self.now.count c.args.self.now.rows) cc) few) c.map.ensures.closure (omega arith) (λ x r q k. search rules)
 
-pub loop-i-preserved : goal.loop-i-preserved
-loop-i-preserved c =
-    (omega arith, omega arith, ports_more _ (block_of (row_at c.args.self.now.rows c.loop-i.i)) _ _ c.loop-i.invariant.2 c.ports_of-ports.ensures.0 ∙ sym (ap (λ (l : List Row). ports_in_all (map block_of l)) (rows_more c.args.self.now.rows c.loop-i.i)))
+pub returns : goal.returns
+returns c =
+    let e : c.sum.result ≡ sum_by (λ (r : Row). (block_of r).incoming + (block_of r).outgoing) (take c.args.self.now.count c.args.self.now.rows) = search rules in
+    e ∙ ports_taken block_of (map block_of) refl (λ r l. refl) _ _ (omega arith)

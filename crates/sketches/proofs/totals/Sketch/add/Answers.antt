@@ -5,12 +5,9 @@ use Prim.Native.Nat.{◌+◌}
 use mathlib.Core.Bool.{false}
 use Rattle.sketches.specs.Plan.{Plan}
 use Rattle.sketches.specs.PlanCalls.{add_block}
-use Rattle.sketches.specs.BlockSteps.{no_room, added_too_many, added_no_room, added}
+use Rattle.sketches.specs.BlockSteps.{no_room, added_no_room, added}
 use Rattle.sketches.specs.Held.{Held, plan_of, HeldWf, seen_as}
 use Rattle.sketches.proofs.totals.Sketch.add.Goals as goal
-
-pub returns-then-ports-gt-NODE_PORTS : goal.returns-then-ports-gt-NODE_PORTS
-returns-then-ports-gt-NODE_PORTS c = let e : c.wide.result + c.wide-2.result ≡ c.args.incoming + c.args.outgoing = omega arith in added_too_many _ _ _ _ (subst HeldWf c.self.view_is c.self.invariant) _ _ e c.if-ports-gt-NODE_PORTS.true
 
 pub returns-then-no_room : goal.returns-then-no_room
 returns-then-no_room c = let e : c.wide.result + c.wide-2.result ≡ c.args.incoming + c.args.outgoing = omega arith in added_no_room _ _ _ _ (subst HeldWf c.self.view_is c.self.invariant) _ _ e c.if-ports-gt-NODE_PORTS.false (sym c.no_room.ensures ∙ c.if-no_room.true)

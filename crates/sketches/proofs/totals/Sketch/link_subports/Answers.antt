@@ -3,16 +3,13 @@ use mathlib.Core.Path.{◌≡◌, sym, subst, ◌∙◌}
 use native.Mathlib.Omega.{arith}
 use Rattle.sketches.specs.Plan.{Plan, offset_read}
 use Rattle.sketches.specs.PlanCalls.{link_subports}
-use Rattle.sketches.specs.EndSteps.{judge_ends, ends_refused, ends_sides, ends_room, ends_linked}
+use Rattle.sketches.specs.EndSteps.{judge_ends, ends_refused, ends_room, ends_linked}
 use Rattle.std.proofs.lemmas.Result.{err_from_is_err_and}
 use Rattle.sketches.specs.Held.{Held, plan_of, HeldWf, seen_as, back}
 use Rattle.sketches.proofs.totals.Sketch.link_subports.Goals as goal
 
 pub returns-in_err-judge_ends : goal.returns-in_err-judge_ends
 returns-in_err-judge_ends c = let p = err_from_is_err_and c.from_residual.result c.from_residual.ensures.1 in rw (p.1, p.2) (ends_refused c.args.self.now.blocks c.args.self.now.splits c.args.self.now.wires c.args.self.now.totals (subst HeldWf c.self.view_is c.self.invariant) c.args.x.port c.args.x.offset c.args.y.port c.args.y.offset (sym c.in_err-judge_ends.was ∙ c.judge_ends.ensures))
-
-pub wire_row-requires : goal.wire_row-requires
-wire_row-requires c = ends_sides c.args.self.now.blocks c.args.self.now.splits c.args.self.now.wires c.args.self.now.totals (subst HeldWf c.self.view_is c.self.invariant) c.args.x.port c.args.x.offset c.args.y.port c.args.y.offset c.judge_ends.ensures c.in_ok-judge_ends.was
 
 pub push-requires : goal.push-requires
 push-requires c = let l = ends_room _ _ _ _ c.self.invariant c.args.x.port c.args.x.offset c.args.y.port c.args.y.offset (subst (λ (k : Held). c.judge_ends.result ≡ judge_ends (plan_of k) c.args.x.port c.args.x.offset c.args.y.port c.args.y.offset) (sym c.self.view_is) c.judge_ends.ensures) c.in_ok-judge_ends.was in omega arith

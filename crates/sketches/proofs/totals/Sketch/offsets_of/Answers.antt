@@ -3,4 +3,4 @@ use Rattle.sketches.specs.SketchWalks.{knows_more}
 use Rattle.sketches.proofs.totals.Sketch.offsets_of.Goals as goal
 
 pub returns : goal.returns
-returns c = knows_more _ _ c.subports_of-subports.ensures.wf.plan c.subports_of-subports.ensures.count c.if-subports-eq0.false
+returns c = knows_more _ _ c.subports_of.ensures.wf.plan c.subports_of.ensures.count c.max.ensures

@@ -2,18 +2,12 @@
 use mathlib.Core.Path.{◌≡◌, refl, sym, subst}
 use mathlib.Core.Bool.{true}
 use Rattle.sketches.specs.Plan.{Plan, is_there, subports_of, offset_ready, ready}
-use Rattle.sketches.specs.SplitSteps.{ready_offset, ready_room, port_ready, plan_seen_as}
+use Rattle.sketches.specs.SplitSteps.{port_ready, plan_seen_as}
 use Rattle.sketches.specs.Held.{Held, plan_of, back}
 use Rattle.sketches.proofs.totals.Sketch.ready_port.Goals as goal
-
-pub subports_ready-subports-requires : goal.subports_ready-subports-requires
-subports_ready-subports-requires c = ready_offset _ _ _ _ c.subports_of.ensures.wf _ c.offset_ready-offset.ensures
-
-pub set_subports-requires : goal.set_subports-requires
-set_subports-requires c = ready_room _ _ _ _ c.self.invariant _ (subst (λ (k : Held). is_there (plan_of k) c.args.port ≡ true) (sym c.self.view_is) c.requires) (back (λ (k : Plan). offset_ready k c.args.port) c.self.view_is c.offset_ready-offset.ensures) (back (λ (k : Plan). subports_of k c.args.port) c.self.view_is c.subports_of.ensures.count) c.subports_ready-subports.ensures
 
 pub invariant_of-self : goal.invariant_of-self
 invariant_of-self c = (port_ready _ _ _ _ c.self.invariant _ (subst (λ (k : Held). is_there (plan_of k) c.args.port ≡ true) (sym c.self.view_is) c.requires) (back (λ (k : Plan). offset_ready k c.args.port) c.self.view_is c.offset_ready-offset.ensures) (back (λ (k : Plan). subports_of k c.args.port) c.self.view_is c.subports_of.ensures.count) c.subports_ready-subports.ensures (c.set_subports.ensures, c.set_subports.new.self.full) refl).wf
 
-pub returns : goal.returns
-returns c = plan_seen_as (λ (k : Plan). ready k c.args.port) c.self.view_is (port_ready _ _ _ _ c.self.invariant _ (subst (λ (k : Held). is_there (plan_of k) c.args.port ≡ true) (sym c.self.view_is) c.requires) (back (λ (k : Plan). offset_ready k c.args.port) c.self.view_is c.offset_ready-offset.ensures) (back (λ (k : Plan). subports_of k c.args.port) c.self.view_is c.subports_of.ensures.count) c.subports_ready-subports.ensures (c.set_subports.ensures, c.set_subports.new.self.full) refl)
+pub returns-clause-is : goal.returns-clause-is
+returns-clause-is c = plan_seen_as (λ (k : Plan). ready k c.args.port) c.self.view_is (port_ready _ _ _ _ c.self.invariant _ (subst (λ (k : Held). is_there (plan_of k) c.args.port ≡ true) (sym c.self.view_is) c.requires) (back (λ (k : Plan). offset_ready k c.args.port) c.self.view_is c.offset_ready-offset.ensures) (back (λ (k : Plan). subports_of k c.args.port) c.self.view_is c.subports_of.ensures.count) c.subports_ready-subports.ensures (c.set_subports.ensures, c.set_subports.new.self.full) refl)

@@ -2,12 +2,9 @@
 use mathlib.Core.Path.{refl, sym, ◌∙◌}
 use Rattle.sketches.specs.Plan.{Plan, has_block}
 use Rattle.sketches.specs.PlanCalls.{remove_block}
-use Rattle.sketches.specs.BlockSteps.{removed_unknown, removed}
+use Rattle.sketches.specs.BlockSteps.{removed}
 use Rattle.sketches.specs.Held.{seen_as, back}
 use Rattle.sketches.proofs.totals.Sketch.remove.Goals as goal
-
-pub returns-then-not-has_block : goal.returns-then-not-has_block
-returns-then-not-has_block c = removed_unknown _ _ _ _ c.has_block.ensures.wf _ (sym c.has_block.ensures.found ∙ c.if-not-has_block.true)
 
 pub invariant_of-self : goal.invariant_of-self
 invariant_of-self c = (removed _ _ _ _ c.self.invariant c.args.name (sym (back (λ (k : Plan). has_block k.blocks c.args.name) c.self.view_is c.has_block.ensures.found) ∙ c.if-not-has_block.false) _ _ _ _ _ _ (c.drop_where.ensures, c.drop_where.new.self.full) (c.drop_where-2.ensures, c.drop_where-2.new.self.full) (c.drop_where-3.ensures, c.drop_where-3.new.self.full) refl).wf

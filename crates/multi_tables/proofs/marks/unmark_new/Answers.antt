@@ -1,9 +1,0 @@
--- `multi_tables::marks::unmark_new` meets its contract: two ranges are unmarked.
-use Rattle.multi_tables.specs.MarkMoves.{new_unmarked}
-use Rattle.multi_tables.proofs.marks.unmark_new.Goals as goal
-
-pub returns : goal.returns
-returns c =
-    new_unmarked c.args.marks.now c.args.a c.args.b
-    c.wide-first.ensures c.from-new_in.ensures c.from-new_out.ensures c.from.ensures c.min-kept_in.ensures c.from-2.ensures c.min-kept_out.ensures
-    c.unmark.ensures c.unmark-2.ensures

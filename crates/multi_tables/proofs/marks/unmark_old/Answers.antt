@@ -1,9 +1,0 @@
--- `multi_tables::marks::unmark_old` meets its contract: two ranges are unmarked.
-use Rattle.multi_tables.specs.MarkMoves.{old_unmarked}
-use Rattle.multi_tables.proofs.marks.unmark_old.Goals as goal
-
-pub returns : goal.returns
-returns c =
-    old_unmarked c.args.marks.now c.args.a c.args.b
-    c.wide-old.ensures c.wide-new.ensures c.from.ensures c.from-2.ensures c.from-3.ensures c.from-4.ensures
-    c.saturating_sub-within.ensures c.saturating_sub.ensures c.min.ensures c.saturating_sub-2.ensures c.unmark.ensures c.unmark-2.ensures

@@ -1,9 +1,0 @@
--- `multiportgraph::multiportgraph::MultiPortGraph::link_count` meets its contract: a difference of counts.
-use mathlib.Core.Path.{ap, ◌∙◌}
-use Prim.Native.Nat.{◌-◌}
-use Rattle.multiportgraph.specs.Calls.{visible_links}
-use Rattle.multiportgraph.proofs.multiportgraph.MultiPortGraph.link_count.Goals as goal
-
-pub returns : goal.returns
-unfolding visible_links
-returns c = c.saturating_sub.ensures ∙ ap (λ x. x - c.args.self.copy_node_count) c.link_count.ensures

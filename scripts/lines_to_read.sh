@@ -13,10 +13,10 @@ lines() {
     printf '%-16s%5d  %s\n' "$crate" "$total" "$*"
 }
 echo 'for the calls and the theorems:'
-lines port_tables Limits Lists Entries Tables ResizeLinks NodeWords Places
-lines portgraph Lookups Calls Resize Lent
+lines port_tables Limits Lists Entries Tables ResizeLinks Places
+lines portgraph Lookups Calls Resize
 lines multi_tables EndAnswers Forms
-lines multiportgraph Reading Graph Answers HiddenNodes Tidy Refusals Calls Wires MultiLent
+lines multiportgraph Reading Graph Answers HiddenNodes Tidy Refusals Calls Wires
 lines theorems Theorems Book History Claims AnswerClaims PlaceClaims ListingClaims MoveClaims CursorClaims Conditions Works TidyClaims ReleaseTheorems ReleaseClaims
 lines records Words Run Forms
 echo 'for walks, lookups and whole listings besides:'

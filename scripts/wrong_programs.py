@@ -33,7 +33,7 @@ import sys
 import tempfile
 
 ROOT = os.path.dirname(os.path.dirname(os.path.abspath(__file__)))
-COVERED = ("port_tables", "portgraph", "multi_tables", "multiportgraph", "lent_portgraph", "lent_calls", "lent_ends", "lent_linking", "records", "sheets", "files")
+COVERED = ("port_tables", "portgraph", "multi_tables", "multiportgraph", "records", "sheets", "files")
 COVERED += ("exports", "sketches", "timing", "slots", "records_c", "exports_c")
 # Errors that rest on others, and errors of a proof file that speaks of goals or of facts on the way that the code does not have.
 FOLLOWS = re.compile(r"which (?:was not admitted|was rejected|is not proved)")
@@ -43,8 +43,6 @@ FALSE = "allow values at which this goal is false"
 MARK = "<!-- tables of scripts/wrong_programs.py --write -->\n"
 # The crates up to the theorems, of which a definition is tried on all laws that these rest on.
 BELOW = ["port_tables", "multi_tables", "portgraph", "multiportgraph", "theorems"]
-# Files whose laws are promises too, of the numbers in lent tables, and which no theorem rests on.
-PROMISED = [("port_tables", "NodeWordSteps"), ("portgraph", "LentWords"), ("multiportgraph", "LentGraph")]
 
 
 # Flags of rt check.
@@ -91,7 +89,10 @@ class Edit:
         if len(found) != 1:
             self.tell("BAD EDIT", "the text stands there %d times" % len(found))
             return False
-        text = text[: found[0].start()] + "\n".join(self.new) + text[found[0].end() :]
+        # in a function the lines stand as deep as the old ones: a brace at a line's start would end the impl
+        line = text[text.rfind("\n", 0, found[0].start()) + 1 :]
+        deep = "" if self.of_definition() else re.match(" *", line).group()
+        text = text[: found[0].start()] + ("\n" + deep).join(self.new) + text[found[0].end() :]
         write(path, "\n".join(lines[:first] + [text] + lines[last + 1 :]))
         return True
 
@@ -358,7 +359,7 @@ def strip(folder):
 
 
 def prune(top):
-    """The crates of BELOW without the files of specs and of laws that neither `theorems` nor PROMISED rests on: these are about the code."""
+    """The crates of BELOW without the files of specs and of laws that `theorems` does not rest on: these are about the code."""
     def file_of(crate, part, module):
         return os.path.join(top, "crates", crate, part, module + ".antt")
 
@@ -367,7 +368,6 @@ def prune(top):
         return re.findall(r"^(?:pub )?mod (\w+)$", read(lib), re.M) if os.path.exists(lib) else []
 
     left = [("theorems", part, name) for part in ("specs", "proofs") for name in modules("theorems", part)]
-    left += [(crate, "specs", name) for crate, name in PROMISED]
     reached = set()
     while left:
         place = left.pop()

@@ -15,8 +15,8 @@ use Rattle.multiportgraph.specs.declared.multiportgraph.PortsLinked.{PortsLinked
 use Rattle.multi_tables.specs.declared.answers.Refusal.TheVariants.{NoRoom}
 use Rattle.theorems.specs.Book as book
 use Rattle.theorems.specs.Book.{book_link}
-use Rattle.theorems.specs.Conditions.{LinkRefused, OfBlock, Taken, clean_first_dead, clean_full, clean_one_side, clean_second_dead, clean_wired, link_first_full, link_second_full}
-use Rattle.theorems.proofs.LinkCall.{block_not_hidden, links_otherwise, sides_differ}
+use Rattle.theorems.specs.Conditions.{LinkRefused, OfBlock, Taken, clean_first_dead, clean_full, clean_one_side, clean_second_dead, clean_wired}
+use Rattle.theorems.proofs.LinkCall.{links_otherwise, sides_differ}
 use Rattle.theorems.proofs.LinkCleanCall.{clean_refuses, link_is_clean}
 use Rattle.theorems.specs.TakenLaws.{so_free, so_taken}
 use Rattle.sketches.specs.Plan.{input_taken}
@@ -32,7 +32,7 @@ use Rattle.agreement.specs.Square.{pair, Square}
 use Rattle.agreement.specs.Standing.{PortHere, PortGone, here#, port_meant}
 use Rattle.agreement.specs.LinkTests.{taken_alike}
 use Rattle.agreement.specs.LinkSteps.{LinkResult, prepare_alike, second_prepared, accepted_result}
-use Rattle.agreement.specs.LinkSquare.{none_hidden}
+use Rattle.agreement.specs.LinkSquare.{none_hidden, both_ends}
 use Rattle.sketches.specs.declared.sketch.Reason.{Reason}
 use Rattle.sketches.specs.declared.sketch.SketchEnd.{SketchEnd}
 
@@ -77,17 +77,9 @@ module _ {b : Both} {M : Model} (a : Alike b M) (p q : ℕ) (x y : SketchPort) (
           so _ (both_linked b.plan x y) (link_is_clean m p q _ _ (ap (λ (v : PortsLinked). v.answer) l) ∙ l)
           (rw (h.there, untaken, k.there, c, i) refl) (accepted_result a h k m₁ u o m₂ v r s t opposite)
 
-      second_end_lem : (m₁ : MultiPortGraph) (u o : ℕ) → prepare m p x.side ≡ hiding.ready m₁ u o → (w : hiding.Prepared) → prepare m₁ q y.side ≡ w → Done
-      second_end_lem m₁ u o e hiding.full g = absurd (no_room (link_second_full (here# h) (here# k) m₁ u o at_first at_second free e g))
-      second_end_lem m₁ u o e (hiding.ready m₂ v r) g = linked m₁ m₂ u o v r e g (is_full b.plan) refl
-
-      first_end : (w : hiding.Prepared) → prepare m p x.side ≡ w → Done
-      first_end hiding.full e = absurd (no_room (link_first_full (here# h) at_first (block_not_hidden a.rel.fine q (here# k) at_second) free e))
-      first_end (hiding.ready m₁ u o) e = second_end_lem m₁ u o e (prepare m₁ q y.side) refl
-
     sides : (c : Bool) → same_side x.side y.side ≡ c → Done
     unfolding sketch.link_clean reason_number
-    sides false c = first_end c (prepare m p x.side) refl
+    sides false c = both_ends a p q h k free (no_room c) (λ m₁ m₂ u o v r e g. linked c m₁ m₂ u o v r e g (is_full b.plan) refl)
     sides true c =
         so _ (leaves b.plan (Err reason.SameSide))
         (clean_refuses a.rel.fine p q _ (clean_one_side (here# h) (here# k) at_first at_second free (same_side_is x.side y.side c)))

@@ -39,6 +39,21 @@ pub none_hidden : {b : Both} {M : Model} → Alike b M → (q : ℕ) (y : Sketch
 none_hidden a q y (inl k) = block_not_hidden a.rel.fine q (here# k) (k.is_seen, k.slot)
 none_hidden a q y (inr g) = dead_not_hidden a.rel.fine q g.0
 
+-- both ports are of blocks and free, and 10 is not given: both ends are prepared
+module _ {b : Both} {M : Model} (a : Alike b M) (p q : ℕ) {x y : SketchPort} (h : PortHere b M p x) (k : PortHere b M q y)
+    (free : Taken b.kit.graph M p q → ⊥) (no_room : LinkRefused b.kit.graph M p q b.kit.graph NoRoom → ⊥) {D : Type 0}
+    (prepared : (m₁ m₂ : MultiPortGraph) (u o v r : ℕ) → prepare b.kit.graph p x.side ≡ hiding.ready m₁ u o → prepare m₁ q y.side ≡ hiding.ready m₂ v r → D) where
+  second_end_lem : (m₁ : MultiPortGraph) (u o : ℕ) → prepare b.kit.graph p x.side ≡ hiding.ready m₁ u o → (w : hiding.Prepared) → prepare m₁ q y.side ≡ w → D
+  second_end_lem m₁ u o e hiding.full g = absurd (no_room (link_second_full (here# h) (here# k) m₁ u o (h.is_seen, h.slot) (k.is_seen, k.slot) free e g))
+  second_end_lem m₁ u o e (hiding.ready m₂ v r) g = prepared m₁ m₂ u o v r e g
+
+  first_end : (w : hiding.Prepared) → prepare b.kit.graph p x.side ≡ w → D
+  first_end hiding.full e = absurd (no_room (link_first_full (here# h) (h.is_seen, h.slot) (block_not_hidden a.rel.fine q (here# k) (k.is_seen, k.slot)) free e))
+  first_end (hiding.ready m₁ u o) e = second_end_lem m₁ u o e (prepare m₁ q y.side) refl
+
+  pub both_ends : D
+  both_ends = first_end (prepare b.kit.graph p x.side) refl
+
 module _ {b : Both} {M : Model} (a : Alike b M) (p q : ℕ) (x y : SketchPort) (first : PortMeans b p x) (second : PortMeans b q y) (room : HasRoom b (pair (book.link_call p q) (link_plan x y))) where
   abbrev m : MultiPortGraph
   m = b.kit.graph
@@ -82,13 +97,8 @@ module _ {b : Both} {M : Model} (a : Alike b M) (p q : ℕ) (x y : SketchPort) (
         so _ (both_linked b.plan x y) (links_otherwise a.rel.fine p q free (here# h) (here# k) m₁ m₂ u o v r at_first at_second e g opposite)
         (rw (h.there, untaken, k.there, c, i) refl) (accepted_result a h k m₁ u o m₂ v r s t opposite)
 
-    second_end_lem : (m₁ : MultiPortGraph) (u o : ℕ) → prepare m p x.side ≡ hiding.ready m₁ u o → (w : hiding.Prepared) → prepare m₁ q y.side ≡ w → Done
-    second_end_lem m₁ u o e hiding.full g = absurd (no_room (link_second_full (here# h) (here# k) m₁ u o at_first at_second free e g))
-    second_end_lem m₁ u o e (hiding.ready m₂ v r) g = sides m₁ m₂ u o v r e g (same_side x.side y.side) refl (is_full b.plan) refl
-
-    first_end : (w : hiding.Prepared) → prepare m p x.side ≡ w → Done
-    first_end hiding.full e = absurd (no_room (link_first_full (here# h) at_first (block_not_hidden a.rel.fine q (here# k) at_second) free e))
-    first_end (hiding.ready m₁ u o) e = second_end_lem m₁ u o e (prepare m₁ q y.side) refl
+    here : Done
+    here = both_ends a p q h k free no_room (λ m₁ m₂ u o v r e g. sides m₁ m₂ u o v r e g (same_side x.side y.side) refl (is_full b.plan) refl)
 
   -- the second is not there
   alone : (h : PortHere b M p x) → PortGone b M q y → (Taken m M p q → ⊥) → input_taken b.plan x y ≡ false → (w : hiding.Prepared) → prepare m p x.side ≡ w → Done
@@ -106,7 +116,7 @@ module _ {b : Both} {M : Model} (a : Alike b M) (p q : ℕ) (x y : SketchPort) (
       so _ (leaves b.plan (Err reason.InputWired))
       (link_refuses a.rel.fine p q m _ (link_wired (here# h) (h.is_seen, h.slot) (none_hidden a q y k) (so_taken a.rel.fine p q e)))
       (rw (h.there, t) refl) ((_, refl), (M, a))
-  wired h (inl k) false e t = first_end h k (so_free a.rel.fine p q e) t (prepare m p x.side) refl
+  wired h (inl k) false e t = here h k (so_free a.rel.fine p q e) t
   wired h (inr g) false e t = alone h g (so_free a.rel.fine p q e) t (prepare m p x.side) refl
 
   done : (h : PortHere b M p x ⊎ PortGone b M p x) (k : PortHere b M q y ⊎ PortGone b M q y) → Done

@@ -30,6 +30,7 @@ use Rattle.theorems.specs.ReleaseLaws.{prepare_for}
 use Rattle.theorems.proofs.WireRule.{spot_of_lem, rel_same, rel_linked}
 use Rattle.sketches.specs.Plan.{Plan, spot_named, subports_of, place_named, subports_ready, offset_ready, ready}
 use Rattle.sketches.specs.PlanCalls.{Sketched, both_linked, with_wire}
+use Rattle.sketches.specs.CallsWf.{ready_wires}
 use Rattle.sketches.specs.declared.sketch.SketchPort.{SketchPort}
 use Rattle.agreement.specs.Meaning.{Both}
 use Rattle.agreement.specs.Agreement.{LinkAlike}
@@ -72,10 +73,6 @@ prepare_release m p d m' q o e =
 pub ready_blocks : (K : Plan) (x : SketchPort) → (ready K x).blocks ≡ K.blocks
 unfolding ready
 ready_blocks K x = set_blocks K x _
-
-pub ready_wires : (K : Plan) (x : SketchPort) → (ready K x).wires ≡ K.wires
-unfolding ready
-ready_wires K x = set_wires K x _
 
 abbrev pub prepared_both : Both → MultiPortGraph → SketchPort → Both
 prepared_both b m x = record { kit = record { graph = m; book = b.kit.book }; names = b.names; plan = ready b.plan x }

@@ -40,7 +40,7 @@ use Rattle.multiportgraph.specs.RecountLaws.{set_recounts, growth#, grown, more_
 use Rattle.port_tables.specs.Places.{Place}
 use Rattle.multiportgraph.specs.HiddenNodes.{copy_incoming, copy_outgoing, ready, split, split_by, split_under, split_port, lowest_free, enough, grow, grow_under, grown_by, recounted, reuse, reuse_under, prepare, prepare_under}
 use Rattle.multiportgraph.specs.declared.multiportgraph.MultiPortGraph.{MultiPortGraph}
-use Rattle.multiportgraph.specs.declared.lent.Need.TheVariants as need
+use Rattle.multiportgraph.specs.declared.needs.Need.TheVariants as need
 use Rattle.sketches.specs.Plan.{subports_ready}
 use Rattle.agreement.specs.Alike.{subports_at}
 use Rattle.agreement.specs.KeptSplits.{split_kept, same_subports}

@@ -1,18 +1,15 @@
 -- The removal of a block leaves the ports of other blocks as split as they were: its split ports lose their hidden nodes one by one, then the node goes.
-use Rattle.std.specs.Prelude.{◌≡◌, refl, Bool, true, false, ℕ, zero, suc, ◌+◌, ◌-◌, ◌≤◌, ◌<◌, ltb}
-use Rattle.std.proofs.Common.{sym, ◌∙◌, ap, subst, arith, ltb-true, ltb-false, ne_eqb}
-use Rattle.port_tables.specs.Entries.{ports_on}
+use Rattle.std.specs.Prelude.{◌≡◌, refl, Bool, true, false, ℕ, zero, suc, ◌+◌, ◌≤◌}
+use Rattle.std.proofs.Common.{sym, ◌∙◌, ap, subst, arith, ne_eqb}
 use Rattle.portgraph.specs.Meaning.{remove_model, at_node}
 use Rattle.portgraph.specs.Model as model
 use Rattle.portgraph.specs.Model.{Model, to, Slots, gone, live, Valid, slot_of, count_of, first_of, side_start}
 use Rattle.portgraph.specs.Calls.{remove_node}
 use Rattle.portgraph.specs.Sums.{drop_kept, upd_other}
 use Rattle.portgraph.specs.GoodLaws.{good_remove}
-use Rattle.port_tables.specs.declared.direction.Direction.{Direction}
-use Rattle.port_tables.specs.declared.direction.Direction.TheVariants.{Incoming, Outgoing}
 use Rattle.port_tables.specs.declared.node_entry.NodeMeta.{NodeMeta}
 use Rattle.multiportgraph.specs.Calls.{drop_block}
-use Rattle.multiportgraph.specs.WellFormed.{inner#, copy_place, Fine, BlockIs, Seen, SameBlocks}
+use Rattle.multiportgraph.specs.WellFormed.{copy_place, Fine, BlockIs, Seen, SameBlocks}
 use Rattle.multiportgraph.specs.Ends.{main_seen, split_has_copy}
 use Rattle.multiportgraph.specs.HiddenStays.{plain_frame, frame_fine, hidden_below, split_below, true_not_false}
 use Rattle.multiportgraph.specs.CopyLaws.{copy_goes, unsplit_split, unsplit_whole, removed_holds}
@@ -20,7 +17,7 @@ use Rattle.multiportgraph.specs.Graph.{with_graph}
 use Rattle.multiportgraph.specs.HiddenNodes.{remove_copy, unsplit, unsplit_range}
 use Rattle.multiportgraph.specs.Reading.{is_hidden, is_split}
 use Rattle.multiportgraph.specs.declared.multiportgraph.MultiPortGraph.{MultiPortGraph}
-use Rattle.theorems.specs.RemoveLaws.{Passed, range_passed}
+use Rattle.theorems.specs.RemoveLaws.{port_of_block, range_passed, block_unsplit}
 use Rattle.agreement.specs.Alike.{subports_at}
 use Rattle.agreement.specs.KeptSplits.{split_kept, same_subports, same_slot}
 use Rattle.agreement.specs.Carry.{seen_still}
@@ -30,30 +27,13 @@ use Rattle.agreement.specs.CutSquares.{copy_keeps_splits}
 abbrev Others : MultiPortGraph → Model → MultiPortGraph → Model → ℕ → Type 0
 Others m M m' M' n = (y : model.InnerPlace) → Seen m M y → (y.node ≡ n → ⊥) → subports_at m' M' y ≡ subports_at m M y
 
--- the port with a number among a block's
-port_among : (m : MultiPortGraph) (M : Model) (n : ℕ) (k : NodeMeta) → BlockIs m M n k → (p : ℕ) → k.first_port.0 ≤ p → p < k.first_port.0 + (k.incoming + k.outgoing) →
-    (x : model.InnerPlace) × Seen m M x × (slot_of M.node x ≡ p) × (x.node ≡ n)
-port_among m M n k b p low high = go (ltb (p - k.first_port.0) k.incoming) refl
-  where
-    found : (d : Direction) (i : ℕ) → i < ports_on k d → k.first_port.0 + (side_start (live k) d + i) ≡ p → (x : model.InnerPlace) × Seen m M x × (slot_of M.node x ≡ p) × (x.node ≡ n)
-    found d i l e = (
-      inner# n d i,
-      (subst (λ (s : Slots). i < count_of s d) (sym b.1) l, b.0),
-      ap (λ (s : Slots). first_of s + (side_start s d + i)) b.1 ∙ e,
-      refl,
-    )
-
-    go : (t : Bool) → ltb (p - k.first_port.0) k.incoming ≡ t → (x : model.InnerPlace) × Seen m M x × (slot_of M.node x ≡ p) × (x.node ≡ n)
-    go true e = let l = ltb-true (p - k.first_port.0) k.incoming e in found Incoming (p - k.first_port.0) l (omega arith)
-    go false e = let l = ltb-false (p - k.first_port.0) k.incoming e in found Outgoing (p - k.first_port.0 - k.incoming) (omega arith) (omega arith)
-
 range_splits : (j : ℕ) {m : MultiPortGraph} {M : Model} → Fine m M → (n : ℕ) (k : NodeMeta) → BlockIs m M n k → (p : ℕ) → k.first_port.0 ≤ p →
     p + j ≤ k.first_port.0 + (k.incoming + k.outgoing) →
     (M' : Model) × Fine (unsplit_range m p j) M' × SameBlocks m M (unsplit_range m p j) M' × Others m M (unsplit_range m p j) M' n
 unfolding unsplit_range
 range_splits zero {m} {M} f n k b p low high = (M, f, ((λ i l c. c), λ i l c. c), λ y s other. refl)
 range_splits (suc j) {m} {M} f n k b p low high =
-    go (λ u U g c. range_splits j g n k c (suc p) (omega arith) (omega arith)) (is_split m p) refl (port_among m M n k b p low (omega arith))
+    go (λ u U g c. range_splits j g n k c (suc p) (omega arith) (omega arith)) (is_split m p) refl (port_of_block m M n k b p low (omega arith))
   where
     go : ((u : MultiPortGraph) (U : Model) → Fine u U → BlockIs u U n k → (M' : Model) × Fine (unsplit_range u (suc p) j) M' × SameBlocks u U (unsplit_range u (suc p) j) M' × Others u U (unsplit_range u (suc p) j) M' n)
         → (t : Bool) → is_split m p ≡ t → (x : model.InnerPlace) × Seen m M x × (slot_of M.node x ≡ p) × (x.node ≡ n)
@@ -116,7 +96,7 @@ removal_splits {m} {M} f n k b =
     let r = range_splits (k.incoming + k.outgoing) f n k b k.first_port.0 (omega arith) (omega arith) in
     let t = range_passed (k.incoming + k.outgoing) f n k b k.first_port.0 (omega arith) (omega arith) in
     let c : BlockIs passed r.0 n k = r.2.0 n k b in
-    let w = whole r.0 t.0 t.1 c in (
+    let w = block_unsplit k r.0 t.1 c in (
       remove_model r.0 n k,
       node_gone r.1 n k c w,
       λ y s other. node_gone_splits r.1 n k c w y (seen_still f r.1 r.2 y s) other ∙ r.3 y s other,
@@ -124,16 +104,3 @@ removal_splits {m} {M} f n k b =
   where
     passed : MultiPortGraph
     passed = unsplit_range m k.first_port.0 (k.incoming + k.outgoing)
-
-    whole : (M' N : Model) → Passed m M (unsplit_range m k.first_port.0 (k.incoming + k.outgoing)) N n k.first_port.0 (k.incoming + k.outgoing) →
-        BlockIs (unsplit_range m k.first_port.0 (k.incoming + k.outgoing)) M' n k →
-        (z : model.InnerPlace) → Valid M'.node z → z.node ≡ n → is_split (unsplit_range m k.first_port.0 (k.incoming + k.outgoing)) (slot_of M'.node z) ≡ false
-    whole M' N p c z v e =
-        let s : M'.node z.node ≡ live k = ap M'.node e ∙ c.1 in
-        let u : z.pos < count_of (live k) z.side = subst (λ (t : Slots). z.pos < count_of t z.side) s v in
-        ap (λ (t : Slots). is_split (unsplit_range m k.first_port.0 (k.incoming + k.outgoing)) (first_of t + (side_start t z.side + z.pos))) s
-        ∙ p.unsplit (k.first_port.0 + (side_start (live k) z.side + z.pos)) (omega arith) (within z.side u)
-      where
-        within : (d : Direction) → z.pos < ports_on k d → k.first_port.0 + (side_start (live k) d + z.pos) < k.first_port.0 + (k.incoming + k.outgoing)
-        within Incoming l = omega arith
-        within Outgoing l = omega arith

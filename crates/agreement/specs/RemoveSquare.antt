@@ -6,11 +6,9 @@ use Rattle.std.proofs.Math.Bool.{not}
 use Rattle.std.proofs.Math.Logic.{⊎_elim}
 use borrow.Author.Tests.{eqb-true, eqb-false, ne_eqb}
 use Rattle.port_tables.specs.Lists.{filter, Member}
-use Rattle.port_tables.specs.Entries.{new_count}
 use Rattle.portgraph.specs.Model as model
 use Rattle.portgraph.specs.Model.{Model, Slots, count_of}
 use Rattle.portgraph.specs.PlaceLaws.{meta_of_node}
-use Rattle.port_tables.specs.declared.direction.Direction.{Direction}
 use Rattle.multiportgraph.specs.Calls.{remove_block, drop_block}
 use Rattle.multiportgraph.specs.Cases.{remove_meta}
 use Rattle.multiportgraph.specs.CaseLaws.{remove_cases}
@@ -28,9 +26,10 @@ use Rattle.theorems.proofs.ReleaseRuns.{step_keeps}
 use Rattle.theorems.proofs.RemoveCall.{remove_refuses}
 use Rattle.theorems.specs.RemoveLaws.{RemoveDone, drop_block_done}
 use Rattle.theorems.proofs.WireRule.{blocks_removed, wires_dropped, seen_live}
-use Rattle.sketches.specs.Plan.{Plan, PlanBlock, ports_on_side, is_there, subports_among}
+use Rattle.sketches.specs.Plan.{Plan, PlanBlock, is_there, subports_among}
 use Rattle.sketches.specs.PlanCalls as sketch
 use Rattle.sketches.specs.PlanCalls.{Sketched}
+use Rattle.sketches.specs.CallsWf.{other_ports}
 use Rattle.sketches.specs.PlanNumbers.{reason_number}
 use Rattle.agreement.specs.Meaning.{Naming, Both, BlockMeans, named_remove, means_remove}
 use Rattle.agreement.specs.Agreement.{RemoveAlike}
@@ -52,20 +51,6 @@ name_left (x ∷ l) n c other = go (eqb x.node n) (eqb x.node c) refl refl (name
     go : (s t : Bool) → eqb x.node n ≡ s → eqb x.node c ≡ t → name_of (filter (λ (x : Naming). not (eqb x.node n)) l) c ≡ name_of l c →
         name_of (cond (not s) (x ∷ filter (λ (x : Naming). not (eqb x.node n)) l) (filter (λ (x : Naming). not (eqb x.node n)) l)) c ≡ cond t x.name (name_of l c)
     go true true p q rest = absurd (other (sym (eqb-true x.node c q) ∙ eqb-true x.node n p))
-    go true false p q rest = rest
-    go false true p q rest = rw q refl
-    go false false p q rest = rw q rest
-
--- the counts of a block that stays
-side_left : (l : List PlanBlock) (k c : ℕ) (d : Direction) → (c ≡ k → ⊥) → ports_on_side (filter (λ (b : PlanBlock). not (eqb b.name k)) l) c d ≡ ports_on_side l c d
-unfolding ports_on_side filter
-side_left [] k c d other = refl
-side_left (x ∷ l) k c d other = go (eqb x.name k) (eqb x.name c) refl refl (side_left l k c d other)
-  where
-    go : (s t : Bool) → eqb x.name k ≡ s → eqb x.name c ≡ t → ports_on_side (filter (λ (b : PlanBlock). not (eqb b.name k)) l) c d ≡ ports_on_side l c d →
-        ports_on_side (cond (not s) (x ∷ filter (λ (b : PlanBlock). not (eqb b.name k)) l) (filter (λ (b : PlanBlock). not (eqb b.name k)) l)) c d
-        ≡ cond t (new_count x.incoming x.outgoing d) (ports_on_side l c d)
-    go true true p q rest = absurd (other (sym (eqb-true x.name c q) ∙ eqb-true x.name k p))
     go true false p q rest = rest
     go false true p q rest = rw q refl
     go false false p q rest = rw q rest
@@ -161,7 +146,7 @@ module _ {b : Both} {M : Model} (a : Alike b M) (n k : ℕ) where
           subports = subports;
           splits_there = λ s i.
               let r = member_filter (λ (s : Place). not (of_node k s)) s b.plan.splits i in
-              ap (ltb s.pos) (side_left b.plan.blocks k s.node s.side (eqb-false s.node k (not_so_true _ r.1))) ∙ a.splits_there s r.0;
+              ap (ltb s.pos) (other_ports b.plan.blocks k s.node s.side (eqb-false s.node k (not_so_true _ r.1))) ∙ a.splits_there s r.0;
           wires = wires_left;
         }
 

@@ -29,29 +29,27 @@ fn after_b() -> State
 }
 
 pub(crate) fn case_a() -> bool {
-    let state = after_a();
-    state.good
+    after_a().good
 }
 
 pub(crate) fn case_b() -> bool {
-    let state = after_b();
-    state.good
+    after_b().good
 }
 
 pub(crate) fn case_c() -> bool {
-    let state = after_b()
+    after_b()
         .asked(Code::Link, [0, 2, 0, 0], [0, 0, 2, 2, 1])
         .asked(Code::Counts, [0, 0, 0, 0], [0, 2, 3, 3, 0])
-        .asked(Code::SubportLink, [0, 1, 0, 0], [0, 1, 2, 0, 0]);
-    state.good
+        .asked(Code::SubportLink, [0, 1, 0, 0], [0, 1, 2, 0, 0])
+        .good
 }
 
 pub(crate) fn case_d() -> bool {
-    let state = after_a()
+    after_a()
         .asked(Code::Link, [1, 2, 0, 0], [12, 4, 2, 0, 0])
         .listed(1, &[(1, 0), (1, 1), (2, 0)])
-        .wired(1);
-    state.good
+        .wired(1)
+        .good
 }
 
 pub(crate) fn case_e() -> bool {
@@ -77,40 +75,40 @@ pub(crate) fn case_g() -> bool {
 }
 
 pub(crate) fn case_h() -> bool {
-    let state = after_b()
+    after_b()
         .asked(Code::Remove, [2, 0, 0, 0], [5, 0, 0, 0, 0])
-        .asked(Code::Remove, [7, 0, 0, 0], [4, 0, 0, 0, 0]);
-    state.good
+        .asked(Code::Remove, [7, 0, 0, 0], [4, 0, 0, 0, 0])
+        .good
 }
 
 pub(crate) fn case_i() -> bool {
-    let state = start()
+    start()
         .asked(Code::Resize, [0, 0, 0, 0], [0, 1, 0, 0, 0])
-        .asked(Code::Add, [0, 1, 0, 0], [0, 2, 0, 0, 0]);
-    state.good
+        .asked(Code::Add, [0, 1, 0, 0], [0, 2, 0, 0, 0])
+        .good
 }
 
 pub(crate) fn case_j() -> bool {
-    let state = State::new()
+    State::new()
         .asked(Code::Add, [512, 512, 0, 0], [0, 0, 0, 0, 0])
         .asked(Code::Add, [512, 512, 0, 0], [0, 1, 1024, 0, 0])
         .asked(Code::Add, [0, 1, 0, 0], [0, 2, 2048, 0, 0])
         .asked(Code::Add, [512, 512, 0, 0], [10, 0, 0, 0, 0])
         .asked(Code::Add, [0, 0, 0, 0], [0, 3, 0, 0, 0])
-        .asked(Code::Add, [512, 513, 0, 0], [3, 0, 0, 0, 0]);
-    state.good
+        .asked(Code::Add, [512, 513, 0, 0], [3, 0, 0, 0, 0])
+        .good
 }
 
 pub(crate) fn case_k() -> bool {
-    let state = State::new()
+    State::new()
         .asked(Code::Add, [1, 1, 0, 0], [0, 0, 0, 0, 0])
         .asked(Code::Add, [0, 2, 0, 0], [0, 1, 2, 0, 0])
         .asked(Code::Link, [2, 0, 0, 0], [0, 2, 0, 0, 0])
         .asked(Code::Link, [3, 0, 0, 0], [0, 3, 0, 0, 1])
         .resized([0, 0, 1], 2, [0, 1, 6, 1, 0, 0])
         .wired(0)
-        .listed(0, &[(0, 0)]);
-    state.good
+        .listed(0, &[(0, 0)])
+        .good
 }
 
 fn both(first: State, second: State) -> bool {

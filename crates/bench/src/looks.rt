@@ -6,18 +6,18 @@ use port_tables::index::NodeIndex;
 use port_tables::sides::Sides;
 
 // Whether the subports of a node, both sides, are these: a port and an offset each.
-pub(crate) fn lists(graph: MultiPortGraph, node: u32, subports: &[(u32, u32)]) -> bool
-    requires { MultiWf graph }
+pub(crate) fn lists(graph: &MultiPortGraph, node: u32, subports: &[(u32, u32)]) -> bool
+    requires { MultiWf graph.now }
 {
     let Ok(start) = graph.subports(NodeIndex(node), Sides::Both) else {
         return false;
     };
     let mut cursor = start;
-    for (port, offset) in subports {
+    for expected in subports {
         let Some((subport, next)) = cursor.step(graph) else {
             return false;
         };
-        if subport.port.0 != *port || subport.subport_offset as u32 != *offset {
+        if (subport.port.0, subport.subport_offset as u32) != *expected {
             return false;
         }
         cursor = next;
@@ -26,8 +26,8 @@ pub(crate) fn lists(graph: MultiPortGraph, node: u32, subports: &[(u32, u32)]) -
 }
 
 // Whether the list of all wires has so many.
-pub(crate) fn has_wires(graph: MultiPortGraph, count: u32) -> bool
-    requires { MultiWf graph }
+pub(crate) fn has_wires(graph: &MultiPortGraph, count: u32) -> bool
+    requires { MultiWf graph.now }
 {
     let mut cursor = graph.wires();
     for _wire in 0..count {

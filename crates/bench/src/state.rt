@@ -5,7 +5,6 @@ use crate::looks::{has_wires, lists};
 use multi_tables::answers::{Refusal, SubportLink};
 use multiportgraph::multiportgraph::MultiPortGraph;
 use port_tables::release::Release;
-use records::answers::Answer5;
 use records::ask::{ask, empty, resize};
 use records::requests::Request;
 
@@ -26,11 +25,6 @@ pub(crate) enum Code {
     Unlink = 5,
     SubportLink = 8,
     Counts = 9,
-}
-
-// Whether an answer has these five words.
-fn is_answer(answer: Answer5, words: [u32; 5]) -> bool {
-    answer.0 == words
 }
 
 // Whether a resize was done with so many events.
@@ -63,25 +57,21 @@ impl State {
         requires { MultiWf self.graph }
         ensures { MultiWf result.graph }
     {
-        let graph = self.graph;
         let [a, b, c, d] = arguments;
         let told = ask(
-            graph,
+            self.graph,
             Request {
                 code: code as u32,
-                a: a,
-                b: b,
-                c: c,
-                d: d,
+                a,
+                b,
+                c,
+                d,
             },
         );
-        let after = told.graph;
-        let answer = told.answer;
-        let state = State {
-            graph: after,
-            good: self.good,
-        };
-        state.with(is_answer(answer, words))
+        State {
+            graph: told.graph,
+            good: self.good && told.answer.0 == words,
+        }
     }
 
     // A resize of a node with two ports: node, inputs and outputs, its number of events and its move list.
@@ -89,17 +79,13 @@ impl State {
         requires { MultiWf self.graph }
         ensures { MultiWf result.graph }
     {
-        let graph = self.graph;
         let [node, incoming, outgoing] = arguments;
         let mut moves = [0u32; 6];
-        let sized = resize(graph, node, incoming, outgoing, &mut moves);
-        let after = sized.graph;
-        let answer = sized.answer;
-        let state = State {
-            graph: after,
-            good: self.good,
-        };
-        state.with(was_set(answer, events)).with(moves == numbers)
+        let sized = resize(self.graph, node, incoming, outgoing, &mut moves);
+        State {
+            graph: sized.graph,
+            good: self.good && was_set(sized.answer, events) && moves == numbers,
+        }
     }
 
     // The subports of a node, a port and an offset each.
@@ -107,8 +93,8 @@ impl State {
         requires { MultiWf self.graph }
         ensures { MultiWf result.graph }
     {
-        let graph = self.graph;
-        self.with(lists(graph, node, subports))
+        let holds = lists(&self.graph, node, subports);
+        self.with(holds)
     }
 
     // The number of all wires.
@@ -116,7 +102,7 @@ impl State {
         requires { MultiWf self.graph }
         ensures { MultiWf result.graph }
     {
-        let graph = self.graph;
-        self.with(has_wires(graph, count))
+        let holds = has_wires(&self.graph, count);
+        self.with(holds)
     }
 }

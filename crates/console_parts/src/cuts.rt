@@ -1,24 +1,16 @@
 // Cuts, and what a subport is linked with: the end that is found, and where it stands.
 ghost use Rattle.multiportgraph.specs.WellFormed.{MultiWf};
 
-use crate::orders::Order;
-use crate::replies::show_refusal;
+use crate::orders::{Order, subport_at};
+use crate::replies::{show_refusal, with_place, with_subport};
 use lines::show::Line;
 use multi_tables::answers::{PortPlace, Refusal, SubportIndex};
 use multiportgraph::multiportgraph::{MultiPortGraph, PortUnlinked};
-use port_tables::index::PortIndex;
 
 fn show_found(rt: &impl Print, answer: Result<Option<(SubportIndex, PortPlace)>, Refusal>) {
     match answer {
         Ok(Some((end, place))) => {
-            let side = place.side;
-            Line::of(b"ok 1")
-                .number(end.port.0)
-                .number(end.subport_offset as u32)
-                .number(place.node.0)
-                .number(side.index())
-                .number(place.position as u32)
-                .write(rt);
+            with_place(with_subport(Line::of(b"ok 1"), end), place).write(rt);
         }
         Ok(None) => Line::of(b"ok 0 0 0").write(rt),
         Err(refusal) => show_refusal(rt, refusal),
@@ -35,14 +27,8 @@ pub fn show_cut(rt: &impl Print, done: PortUnlinked) -> MultiPortGraph
 }
 
 // What a subport is linked with.
-pub fn show_link(rt: &impl Print, graph: MultiPortGraph, order: Order)
-    requires { MultiWf graph }
+pub fn show_link(rt: &impl Print, graph: &MultiPortGraph, order: Order)
+    requires { MultiWf graph.now }
 {
-    show_found(
-        rt,
-        graph.subport_link(SubportIndex {
-            port: PortIndex(order.number(0)),
-            subport_offset: order.offset(1),
-        }),
-    );
+    show_found(rt, graph.subport_link(subport_at(order, 0)));
 }

@@ -69,7 +69,7 @@ pub(crate) fn show_file_refusal(rt: &impl Print, error: MergeError) {
 }
 
 // The wiring of the file whose name stands in the line, for the release of the one in hand, which stays where the file cannot be read or is
-// refused.
+// refused. Stay four parameters, as those of `run` in the console of a wiring: a struct of them would be made for this call alone.
 pub fn load_from(
     rt: &(impl Files + Print),
     graph: MultiPortGraph,
@@ -85,8 +85,7 @@ pub fn load_from(
         return graph;
     };
     let loaded = load(graph.release(), bytes);
-    let answer = loaded.answer;
-    match answer {
+    match loaded.answer {
         Ok(()) => {
             write_bytes(rt, b"ok\n");
             loaded.graph

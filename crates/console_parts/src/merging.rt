@@ -4,7 +4,7 @@ use crate::orders::Order;
 use crate::store::write_wiring;
 use files::merge::merge;
 use files::save::LONGEST_FILE;
-use lines::text::{Span, next_word, part};
+use lines::text::{next_word, part};
 use std::fs::Files;
 
 // Merges two files that were read, and writes the result, which is no longer than the longest file since it loads.
@@ -12,7 +12,7 @@ fn merge_read<'a>(rt: &(impl Files + Print), first: &'a [u8], second: &'a [u8], 
     let mut result = [0u8; LONGEST_FILE];
     match merge(first, second, &mut result) {
         Ok(len) => {
-            write_wiring(rt, name, part(&result, Span { from: 0, to: len }));
+            write_wiring(rt, name, result.get(..len).unwrap_or(&[]));
         }
         Err(error) => show_file_refusal(rt, error),
     }

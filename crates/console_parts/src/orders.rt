@@ -1,9 +1,15 @@
 // What a line asks for: the commands, and how each is typed.
+ghost use Rattle.std.specs.Prelude.{◌≡◌, ◌<◌, ◌+◌};
+ghost use Rattle.lines.specs.Orders.{most_numbers, number_at, offset_at};
+
 use lines::listening::Heard;
 use lines::orders::order_by;
 use lines::rows::row_of;
 use lines::text::next_word;
+use multi_tables::answers::SubportIndex;
+use port_tables::index::{NodeIndex, PortIndex};
 
+// Stays beside that of the console of a sketch: in one enum for both each console would have commands that it does not know.
 #[derive(Clone, Copy, PartialEq, Eq)]
 pub enum Command {
     Add,
@@ -42,8 +48,33 @@ pub enum Command {
     RunOrder,
 }
 
-// A command with its numbers. Stays without its text, which goes beside it: most commands need the numbers alone, and names are words of the text.
+// A command with its numbers. Stays without its text, which goes beside it: of an order that borrowed it each function here would have a lifetime, and most commands need
+// the numbers alone.
 pub type Order = lines::orders::Order<Command>;
+
+// The node, the port and the subport that numbers of an order name, from a place on.
+// Stay a function each: a trait over what they name would be longer than they are.
+pub fn node_at(order: Order, place: usize) -> NodeIndex
+    ensures { result.0 ≡ number_at order place }
+{
+    NodeIndex(order.number(place))
+}
+
+pub fn port_at(order: Order, place: usize) -> PortIndex
+    ensures { result.0 ≡ number_at order place }
+{
+    PortIndex(order.number(place))
+}
+
+pub fn subport_at(order: Order, place: usize) -> SubportIndex
+    requires { place < most_numbers }
+    ensures { (result.port.0 ≡ number_at order place) × (result.subport_offset ≡ offset_at order (place + 1)) }
+{
+    SubportIndex {
+        port: port_at(order, place),
+        subport_offset: order.offset(place + 1),
+    }
+}
 
 const COMMANDS: [(Command, &'static [u8]); 34] = [
     (Command::Add, b"add IN OUT"),

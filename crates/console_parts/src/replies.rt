@@ -1,6 +1,6 @@
 // Answers as lines: `ok` or `refused` with numbers, and `bad line`. A line that says no ends in its reason, for people.
 use lines::show::{Line, show_number};
-use multi_tables::answers::Refusal;
+use multi_tables::answers::{PortPlace, Refusal, SubportIndex};
 use records::answers::{Answer5, refusal_words};
 use std::fmt;
 use std::fmt::Write;
@@ -31,7 +31,7 @@ impl fmt::Display for Reason {
 }
 
 // Why a call is refused, in plain words, by the number of the refusal; 12 carries the side that both ends are on.
-// Stays by number: what a request answers is five words, and the console asks by requests; a table by `Refusal` would stand beside this one.
+// Stays by number: `records` answers in five words, and a table by `Refusal` would need a call for each command beside `answer`, which has one for all requests.
 fn reason_of(answer: Answer5) -> &'static [u8] {
     match answer.0[0] {
         1 => b"a list of a wrong length",
@@ -63,12 +63,28 @@ fn carried(refusal: u32) -> usize {
     }
 }
 
+// Numbers behind what a line has.
+pub(crate) fn with_numbers(line: Line, numbers: &[u32]) -> Line {
+    numbers
+        .iter()
+        .fold(line, |line, number| line.number(*number))
+}
+
 // The first values of an answer.
-fn with_values(mut line: Line, answer: Answer5, count: usize) -> Line {
-    for value in answer.0[1..].iter().take(count) {
-        line = line.number(*value);
-    }
-    line
+fn with_values(line: Line, answer: Answer5, count: usize) -> Line {
+    with_numbers(line, answer.0[1..].get(..count).unwrap_or(&[]))
+}
+
+// A subport: its port and its offset.
+pub(crate) fn with_subport(line: Line, subport: SubportIndex) -> Line {
+    line.number(subport.port.0).number(subport.subport_offset)
+}
+
+// The place of a port: node, side and position.
+pub(crate) fn with_place(line: Line, place: PortPlace) -> Line {
+    line.number(place.node.0)
+        .number(place.side.index())
+        .number(place.position)
 }
 
 // A refusal with what it carries, on a line that begins with what is given.
@@ -112,6 +128,7 @@ pub fn show_refusal(rt: &impl Print, refusal: Refusal) {
     show_refused(rt, Line::of(b""), refusal_words(refusal));
 }
 
+// Stays in both consoles: what a refusal says is each one's own.
 pub fn show_count(rt: &impl Print, answer: Result<usize, Refusal>) {
     match answer {
         Ok(count) => show_number(rt, count as u64),

@@ -2,7 +2,7 @@
 ghost use Rattle.multiportgraph.specs.WellFormed.{MultiWf};
 
 use crate::orders::Order;
-use crate::replies::show_refusal;
+use crate::replies::{show_refusal, with_numbers};
 use lines::show::{Line, show_number};
 use multiportgraph::multiportgraph::MultiPortGraph;
 use port_tables::index::MOVES;
@@ -10,11 +10,7 @@ use records::ask::resize;
 
 // An event: the port, the kind, and the new port or the old link.
 fn show_move(rt: &impl Print, event: &[u32]) {
-    let mut line = Line::of(b" ");
-    for number in event {
-        line = line.number(*number);
-    }
-    line.write(rt);
+    with_numbers(Line::of(b" "), event).write(rt);
 }
 
 pub fn resize_block(rt: &impl Print, graph: MultiPortGraph, order: Order) -> MultiPortGraph
@@ -29,8 +25,7 @@ pub fn resize_block(rt: &impl Print, graph: MultiPortGraph, order: Order) -> Mul
         order.number(2),
         &mut moves,
     );
-    let answer = sized.answer;
-    match answer {
+    match sized.answer {
         Ok(events) => {
             for event in moves.chunks_exact(3).take(events) {
                 show_move(rt, event);

@@ -6,7 +6,7 @@ use crate::orders::Order;
 use crate::replies::{Reason, show_refusal_number};
 use files::save::{BufferShort, LONGEST_FILE, save};
 use lines::show::{show_number, write_bytes};
-use lines::text::{Span, next_word, part};
+use lines::text::{next_word, part};
 use multiportgraph::multiportgraph::MultiPortGraph;
 use std::fs::{Files, OpenFile, OpenOptions, Permissions};
 use std::io::{ErrorKind, Write};
@@ -26,7 +26,7 @@ const MADE_NAMES: u32 = 1000000;
 // The system's number for a disk that does not answer, which has no kind.
 const EIO: i32 = 5;
 
-// The system's reason, in plain words.
+// The system's reason, in plain words. Stays a function: a `Display` could only stand in the crate of `io::Error`.
 fn show_system(rt: &impl Print, error: io::Error) {
     if let Some(EIO) = error.raw_os_error() {
         write_bytes(rt, b"the disk does not answer as it should");
@@ -160,14 +160,14 @@ pub(crate) fn write_wiring(rt: &(impl Files + Print), name: &[u8], bytes: &[u8])
 }
 
 // Saves the wiring under the name that stands in the line.
-pub fn save_as(rt: &(impl Files + Print), graph: MultiPortGraph, order: Order, text: &[u8])
-    requires { MultiWf graph }
+pub fn save_as(rt: &(impl Files + Print), graph: &MultiPortGraph, order: Order, text: &[u8])
+    requires { MultiWf graph.now }
 {
     let name = part(text, next_word(text, order.from));
     let mut buffer = [0u8; LONGEST_FILE];
     match save(graph, &mut buffer) {
         Ok(len) => {
-            write_wiring(rt, name, part(&buffer, Span { from: 0, to: len }));
+            write_wiring(rt, name, buffer.get(..len).unwrap_or(&[]));
         }
         Err(BufferShort) => show_refusal_number(rt, Reason::BufferShort),
     }

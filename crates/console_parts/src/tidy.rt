@@ -13,8 +13,7 @@ pub fn tidy(rt: &impl Print, graph: MultiPortGraph, order: Order) -> MultiPortGr
     ensures { MultiWf result }
 {
     let done = tidy_port(graph, order.number(0));
-    let answer = done.answer;
-    match answer {
+    match done.answer {
         Ok(()) => write_bytes(rt, b"ok\n"),
         Err(refusal) => show_refusal(rt, refusal),
     }

@@ -5,10 +5,10 @@ ghost use Rattle.multiportgraph.specs.WellFormed.{MultiWf};
 use lines::show::{Line, show_number, write_bytes};
 use multiportgraph::list_ends::TooShort;
 use multiportgraph::multiportgraph::MultiPortGraph;
-use port_tables::index::PORT_SLOTS;
+use port_tables::index::MOST_WIRES;
 
-// Room for all wires, eight numbers each, since a wire takes two port slots; and for all blocks, four numbers each.
-const ROOM: usize = 4 * PORT_SLOTS;
+// Room for all wires, eight numbers each; all blocks, four numbers each, fit too.
+const ROOM: usize = 8 * MOST_WIRES;
 
 // A block by its number.
 fn with_block(line: Line, numbers: &[u32]) -> Line {
@@ -78,8 +78,8 @@ fn show_listed<F: Fn(Line, &[u32]) -> Line>(
 }
 
 // All blocks.
-pub fn list_blocks(rt: &impl Print, graph: MultiPortGraph)
-    requires { MultiWf graph }
+pub fn list_blocks(rt: &impl Print, graph: &MultiPortGraph)
+    requires { MultiWf graph.now }
 {
     let mut numbers = [0u32; ROOM];
     let listed = graph.list_blocks(&mut numbers);
@@ -87,8 +87,8 @@ pub fn list_blocks(rt: &impl Print, graph: MultiPortGraph)
 }
 
 // All wires, each with what is to be shown of it.
-pub fn list_wires<F: Fn(Line, &[u32]) -> Line>(rt: &impl Print, graph: MultiPortGraph, with: F)
-    requires { MultiWf graph × F.IsAlwaysCallable with }
+pub fn list_wires<F: Fn(Line, &[u32]) -> Line>(rt: &impl Print, graph: &MultiPortGraph, with: F)
+    requires { MultiWf graph.now × F.IsAlwaysCallable with }
 {
     let mut numbers = [0u32; ROOM];
     let listed = graph.list_wires(&mut numbers);

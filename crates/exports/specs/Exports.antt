@@ -45,6 +45,15 @@ add_words b = 1 ∷ b.incoming ∷ b.outgoing ∷ 0 ∷ 0 ∷ []
 abbrev pub link_words : List BlockPorts → RankWire → List ℕ
 link_words blocks w = 4 ∷ out_port blocks w ∷ in_port blocks w ∷ 0 ∷ 0 ∷ []
 
+-- a request of a code for each two numbers
+abbrev pub pair_request : ℕ → ℕ → ℕ → List ℕ
+pair_request code a b = bytes_of (code ∷ a ∷ b ∷ 0 ∷ 0 ∷ [])
+
+unfoldable pub pair_requests : ℕ → List ℕ → List ℕ
+pair_requests code [] = []
+pair_requests code (a ∷ []) = []
+pair_requests code (a ∷ b ∷ l) = pair_request code a b ++ pair_requests code l
+
 unfoldable pub build_requests : View → List ℕ
 build_requests v = bytes_of (flat_map add_words v.blocks ++ flat_map (link_words v.blocks) v.wires)
 

@@ -1,9 +1,10 @@
 -- The requests that are written of a file are the adds and links of its build, so that a list which begins with them goes on from the
 -- graph that a load of the file gives.
-use Rattle.std.specs.Prelude.{◌≡◌, refl, ℕ, zero, suc, ◌+◌, ◌*◌, ◌/◌, ◌%◌, ◌≤◌, length, get_or, Result, Ok, is_ok}
-use Rattle.std.proofs.Common.{sym, ◌∙◌, arith, length-append, get_or-append-add}
+use Rattle.std.specs.Prelude.{◌≡◌, refl, ℕ, ◌+◌, ◌*◌, ◌/◌, ◌%◌, ◌≤◌, length, Result, Ok, is_ok}
+use Rattle.std.proofs.Common.{sym, ◌∙◌, arith, length-append}
 use Rattle.std.proofs.Math.Path.{ap}
 use mathlib.Core.List.{List, [], ◌∷◌, ◌++◌, map, flat_map, append-nil}
+use Rattle.multiportgraph.specs.ScanLaws.{flat_map_append}
 use Rattle.multiportgraph.specs.declared.multiportgraph.MultiPortGraph.{MultiPortGraph}
 use Rattle.port_tables.specs.declared.release.Release.TheVariants.{One}
 use Rattle.theorems.specs.Book.{Call}
@@ -12,56 +13,24 @@ use Rattle.records.specs.Words.{word_at, bytes_of, Request, request_at, requests
 use Rattle.records.specs.WordLaws.{bytes_long}
 use Rattle.records.specs.Run.{asked, asked_by, after, graph_from, calls_of, first_graph}
 use Rattle.records.specs.RunLaws.{run_is_history}
+use Rattle.records.specs.RunSteps.{requests_on}
 use Rattle.files.specs.View.{BlockPorts, RankWire, View}
 use Rattle.files.specs.Layout.{unbytes}
 use Rattle.files.specs.Loading.{out_port, in_port, add_of, link_of, build_of, load_answer, graph_if, load_graph, load_graph_under}
 use Rattle.files.specs.BuildList.{add_pair, link_pair}
 use Rattle.files.specs.ListingSteps.{loaded_few}
 use Rattle.files.specs.declared.load.LoadError.{LoadError}
-use Rattle.exports.specs.Exports.{graph_left, build_requests, file_requests}
-use Rattle.exports.specs.LoadedSteps.{pair_requests, build_split, requests_many}
+use Rattle.exports.specs.Exports.{graph_left, build_requests, file_requests, pair_requests}
+use Rattle.exports.specs.LoadedSteps.{build_split, requests_many}
 
 -- Requests read back.
-
-word_later : (u l : List ℕ) (i : ℕ) → word_at (u ++ l) (length u + i) ≡ word_at l i
-unfolding word_at
-word_later u l i =
-    let e₁ : length u + i + 1 ≡ length u + (i + 1) = omega arith in
-    let e₂ : length u + i + 2 ≡ length u + (i + 2) = omega arith in
-    let e₃ : length u + i + 3 ≡ length u + (i + 3) = omega arith in
-    let g = get_or-append-add u l in
-    let at : ℕ → ℕ = λ k. get_or (u ++ l) k 0 in
-    λ j. g i 0 j + 256 * (ap at e₁ ∙ g (i + 1) 0) j + 65536 * (ap at e₂ ∙ g (i + 2) 0) j + 16777216 * (ap at e₃ ∙ g (i + 3) 0) j
-
-request_later : (u l : List ℕ) (i : ℕ) → request_at (u ++ l) (length u + i) ≡ request_at l i
-unfolding request_at
-request_later u l i =
-    let e : (k : ℕ) → length u + i + k ≡ length u + (i + k) = λ k. omega arith in
-    let w : (k : ℕ) → word_at (u ++ l) (length u + i + k) ≡ word_at l (i + k) = λ k. ap (word_at (u ++ l)) (e k) ∙ word_later u l (i + k) in
-    λ j. record { code = word_later u l i j; a = w 4 j; b = w 8 j; c = w 12 j; d = w 16 j }
-
-requests_later : (u l : List ℕ) (i n : ℕ) → requests_from (u ++ l) (length u + i) n ≡ requests_from l i n
-unfolding requests_from
-requests_later u l i zero = refl
-requests_later u l i (suc n) =
-    let e : length u + i + 20 ≡ length u + (i + 20) = omega arith in
-    let r = ap (λ (k : ℕ). requests_from (u ++ l) k n) e ∙ requests_later u l (i + 20) n in
-    λ j. request_later u l i j ∷ r j
-
-requests_on : (u l : List ℕ) → length u ≡ 20 → requests_of (u ++ l) ≡ request_at (u ++ l) 0 ∷ requests_of l
-unfolding requests_of requests_from
-requests_on u l h =
-    let a = length-append u l in
-    let n : length (u ++ l) / 20 ≡ suc (length l / 20) = omega arith in
-    let e : 0 + 20 ≡ length u + 0 = omega arith in
-    rw n (ap (λ k. request_at (u ++ l) 0 ∷ k) (ap (λ (k : ℕ). requests_from (u ++ l) k (length l / 20)) e ∙ requests_later u l 0 (length l / 20)))
 
 abbrev request_words : Request → List ℕ
 request_words q = q.code ∷ q.a ∷ q.b ∷ q.c ∷ q.d ∷ []
 
-request_read : (q : Request) (l : List ℕ) → request_at (bytes_of (request_words q) ++ l) 0 ≡ q
+request_read : (q : Request) → request_at (bytes_of (request_words q)) 0 ≡ q
 unfolding request_at word_at bytes_of
-request_read q l =
+request_read q =
     let w : (x : ℕ) → x % 256 + 256 * (x / 256 % 256) + 65536 * (x / 65536 % 256) + 16777216 * (x / 16777216) ≡ x = λ x. omega arith in
     λ j. record { code = w q.code j; a = w q.a j; b = w q.b j; c = w q.c j; d = w q.d j }
 
@@ -71,7 +40,7 @@ requests_back [] more = refl
 requests_back (q ∷ rs) more =
     let u = bytes_of (request_words q) in
     let l = bytes_of (flat_map request_words rs) ++ more in
-    requests_on u l (bytes_long (request_words q)) ∙ (λ j. request_read q l j ∷ requests_back rs more j)
+    requests_on (u ++ l) u l refl (bytes_long (request_words q)) ∙ (λ j. request_read q j ∷ requests_back rs more j)
 
 -- Those of a build.
 
@@ -89,17 +58,12 @@ unfolding flat_map
 flat_map_map g [] = refl
 flat_map_map g (x ∷ l) = ap (λ k. request_words (g x) ++ k) (flat_map_map g l)
 
-flat_map_append : (a b : List Request) → flat_map request_words (a ++ b) ≡ flat_map request_words a ++ flat_map request_words b
-unfolding flat_map
-flat_map_append [] b = refl
-flat_map_append (q ∷ a) b = ap (λ k. request_words q ++ k) (flat_map_append a b)
-
 bytes_are : (v : View) → build_requests v ≡ bytes_of (flat_map request_words (requests_in v))
 unfolding build_requests
 bytes_are v =
     ap bytes_of
     ((λ j. flat_map_map add_request v.blocks j ++ flat_map_map (link_request v.blocks) v.wires j)
-    ∙ sym (flat_map_append (map add_request v.blocks) (map (link_request v.blocks) v.wires)))
+    ∙ sym (flat_map_append request_words (map add_request v.blocks) (map (link_request v.blocks) v.wires)))
 
 -- what is read of them, and of what follows
 requests_are : (v : View) (more : List ℕ) → requests_of (build_requests v ++ more) ≡ requests_in v ++ requests_of more

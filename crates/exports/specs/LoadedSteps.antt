@@ -27,7 +27,7 @@ use Rattle.files.specs.BuildList.{add_pair, link_pair, build_numbers, list_build
 use Rattle.files.specs.ListingSteps.{pairs_long, loaded_few}
 use Rattle.files.specs.declared.load.LoadError.{LoadError}
 use Rattle.files.specs.declared.check.Shape.{Shape}
-use Rattle.exports.specs.Exports.{refused_with, add_words, link_words, build_requests, file_requests, records_return, records_written}
+use Rattle.exports.specs.Exports.{refused_with, add_words, link_words, pair_request, pair_requests, build_requests, file_requests, records_return, records_written}
 
 -- Numbers of answers.
 
@@ -35,14 +35,6 @@ pub refusal_number : (r : Refusal) (w : Answer5) → w.0 ≡ five (refusal_numbe
 refusal_number r w e = ap (λ (l : List ℕ). get_or l 0 0) e
 
 -- Requests of pairs.
-
-abbrev pub pair_request : ℕ → ℕ → ℕ → List ℕ
-pair_request code a b = bytes_of (code ∷ a ∷ b ∷ 0 ∷ 0 ∷ [])
-
-unfoldable pub pair_requests : ℕ → List ℕ → List ℕ
-pair_requests code [] = []
-pair_requests code (a ∷ []) = []
-pair_requests code (a ∷ b ∷ l) = pair_request code a b ++ pair_requests code l
 
 pairs_of : {A : Type 0} (code : ℕ) (p q : A → ℕ) (l : List A) → pair_requests code (flat_map (λ x. p x ∷ q x ∷ []) l) ≡ bytes_of (flat_map (λ x. code ∷ p x ∷ q x ∷ 0 ∷ 0 ∷ []) l)
 unfolding pair_requests flat_map bytes_of

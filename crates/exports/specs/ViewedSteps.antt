@@ -1,7 +1,7 @@
 -- What the proofs of the entry that writes views cite.
 use Rattle.std.specs.Prelude.{◌≡◌, ℕ, ◌+◌, ◌*◌, ◌%◌, ◌≤◌, ◌<◌, take, replicate}
 use Rattle.std.proofs.Math.Path.{refl, ap}
-use Rattle.std.proofs.Common.{sym, ◌∙◌, take-append-drop}
+use Rattle.std.proofs.Common.{sym, ◌∙◌, length-take}
 use mathlib.Core.List.{List, [], ◌∷◌, ◌++◌}
 use native.Mathlib.Omega.{arith}
 use Rattle.std.proofs.Math.ListN.{length, drop, length-append}
@@ -33,9 +33,6 @@ view_parts x y b w = bytes_append (x ∷ y ∷ b) w ∙ ap (λ (l : List ℕ). l
 pub counts_long : (view : List ℕ) (x y : ℕ) {view₁ : List ℕ} → view₁ ≡ sets view 0 (bytes_of (x ∷ y ∷ [])) → length view₁ ≡ length view
 counts_long view x y e = ap length e ∙ length-sets view 0 (bytes_of (x ∷ y ∷ []))
 
-take_short : (n : ℕ) (l : List ℕ) → length (take n l) ≤ length l
-take_short n l = let h = length-append (take n l) (drop n l) in let e = ap length (take-append-drop n l) in omega arith
-
 -- The listings of a graph, in lists that have room for every one.
 
 module _ {m : MultiPortGraph} {M : Model} (f : Fine m M) where
@@ -52,7 +49,7 @@ module _ {m : MultiPortGraph} {M : Model} (f : Fine m M) where
     blocks_long = ap length blocks_taken ∙ sym (listed_blocks f n counted).0
 
     pub blocks_fit : (4 * n ≤ length list) × (4 * n ≤ 4 * node_slots)
-    blocks_fit = let h = listed_blocks f n counted in let a = h.0 in let b = h.1 in let c = blocks_long in let d = take_short (4 * n) list in (omega arith, omega arith)
+    blocks_fit = let h = listed_blocks f n counted in let a = h.0 in let b = h.1 in let c = blocks_long in let d = length-take (4 * n) list in (omega arith, omega arith)
 
   module _ (n : ℕ) (counted : n ≡ visible_links m) {list : List ℕ} (isList : list ≡ list_after (wires_listed m) (replicate (4 * port_slots) 0)) where
     pub wires_taken : take (8 * n) list ≡ wires_listed m
@@ -66,7 +63,7 @@ module _ {m : MultiPortGraph} {M : Model} (f : Fine m M) where
     wires_long = ap length wires_taken ∙ sym (listed_wires f n counted).0
 
     pub wires_fit : (8 * n ≤ length list) × (8 * n ≤ 4 * port_slots)
-    wires_fit = let h = listed_wires f n counted in let a = h.0 in let b = h.1 in let c = wires_long in let d = take_short (8 * n) list in (omega arith, omega arith)
+    wires_fit = let h = listed_wires f n counted in let a = h.0 in let b = h.1 in let c = wires_long in let d = length-take (8 * n) list in (omega arith, omega arith)
 
   pub listing_long : (view : List ℕ) {view' : List ℕ} → view' ≡ sets view 8 (bytes_of (blocks_listed m)) → length view' ≡ length view
   listing_long view e = ap length e ∙ length-sets view 8 (bytes_of (blocks_listed m))

@@ -2,8 +2,7 @@
 ghost use Rattle.std.specs.Prelude.{◌≡◌, ◌+◌, ◌≤◌, length, get_or, Err};
 ghost use Rattle.std.proofs.lemmas.List.Edits.{sets};
 ghost use Rattle.files.specs.Loading.{load_numbers};
-ghost use Rattle.exports.specs.Exports.{refused_with, records_return, records_written};
-ghost use Rattle.exports.specs.LoadedSteps.{pair_requests};
+ghost use Rattle.exports.specs.Exports.{refused_with, records_return, records_written, pair_requests};
 
 use crate::told::{BAD_LAYOUT, BAD_SUMS, BUFFER_SHORT, refusal_told};
 use files::listing::{BUILD_NUMBERS, list_build};
@@ -12,6 +11,7 @@ use port_tables::release::Release;
 use records::words::put_words;
 
 // Lays a request of a code for each two numbers; answers the place after them.
+// The code stays a number, as in a request of `records`. Laid by place: of chunks that are lent to be written, a proof keeps the length alone.
 fn put_requests(requests: &mut [u8], at: usize, code: u32, numbers: &[u32]) -> usize
     requires { at + length (pair_requests code numbers.now) ≤ length requests.old }
     ensures { (result ≡ at + length (pair_requests code numbers.now))

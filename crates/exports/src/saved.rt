@@ -4,8 +4,8 @@ ghost use Rattle.exports.specs.Exports.{save_told, save_return, save_written};
 
 use crate::left::run_left;
 use crate::told::{BAD_LENGTH, BUFFER_SHORT};
-use files::save::{BufferShort, save_lent};
-use multiportgraph::lent_graph::LentGraph;
+use files::save::{BufferShort, save};
+use multiportgraph::multiportgraph::MultiPortGraph;
 use port_tables::release::Release;
 
 // What saving comes to, as one number.
@@ -27,7 +27,7 @@ pub fn save_records(requests: &[u8], file: &mut [u8]) -> u64
     if requests.len() % 20 != 0 {
         return BAD_LENGTH;
     }
-    let mut graph = LentGraph::new(Release::One);
+    let mut graph = MultiPortGraph::new(Release::One);
     run_left(&mut graph, requests);
-    save_told(save_lent(&graph, file))
+    save_told(save(&graph, file))
 }

@@ -6,7 +6,6 @@ ghost use Rattle.exports.specs.Timed.{longest_told, longest_return, path_told, p
 
 use crate::left::run_left;
 use crate::told::{BAD_LENGTH, BAD_TIMES, BUFFER_SHORT, CYCLE, refusal_told};
-use multiportgraph::lent_graph::LentGraph;
 use multiportgraph::multiportgraph::MultiPortGraph;
 use port_tables::index::NodeIndex;
 use port_tables::release::Release;
@@ -18,9 +17,9 @@ use timing::longest::{longest, path};
 fn graph_left(requests: &[u8]) -> MultiPortGraph
     ensures { (result ≡ graph_left requests.now) × MultiWf result }
 {
-    let mut graph = LentGraph::new(Release::One);
+    let mut graph = MultiPortGraph::new(Release::One);
     run_left(&mut graph, requests);
-    graph.graph()
+    graph
 }
 
 // A question without a largest sum, as one number.
@@ -39,7 +38,7 @@ fn longest_told(answer: Result<u32, LongestError>) -> u64
     ensures { result ≡ longest_told answer }
 {
     match answer {
-        Ok(sum) => sum as u64,
+        Ok(sum) => u64::from(sum),
         Err(error) => error_told(error),
     }
 }
@@ -64,7 +63,7 @@ pub fn longest_of_records<'a>(requests: &'a [u8], times: &'a [u16], block: u32) 
     if requests.len() % 20 != 0 {
         return BAD_LENGTH;
     }
-    longest_told(longest(graph_left(requests), NodeIndex(block), times))
+    longest_told(longest(&graph_left(requests), NodeIndex(block), times))
 }
 
 // The same question, answered by the blocks along wires that have this sum, from the first to the one named, at the start of the lent list. How many they are, or
@@ -83,7 +82,7 @@ pub fn path_of_records<'a>(
     }
     let room = list.len();
     path_told(
-        path(graph_left(requests), NodeIndex(block), times, list),
+        path(&graph_left(requests), NodeIndex(block), times, list),
         room,
     )
 }

@@ -26,5 +26,5 @@ pub(crate) const CYCLE: u64 = REFUSED + 20;
 pub(crate) fn refusal_told(refusal: Refusal) -> u64
     ensures { result ≡ refused_with (get_or (refusal_numbers refusal) 0 0) }
 {
-    REFUSED + refusal_words(refusal).0[0] as u64
+    REFUSED + u64::from(refusal_words(refusal).0[0])
 }

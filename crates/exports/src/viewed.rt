@@ -5,55 +5,50 @@ ghost use Rattle.multiportgraph.specs.WellFormed.{MultiWf};
 ghost use Rattle.multiportgraph.specs.Calls.{visible_nodes, visible_links};
 ghost use Rattle.multiportgraph.specs.Listed.{blocks_listed, wires_listed, list_after};
 ghost use Rattle.records.specs.Words.{bytes_of};
-ghost use Rattle.multiportgraph.specs.MultiLent.{graph_of};
 ghost use Rattle.exports.specs.Viewed.{view_bytes, view_told, view_return, view_written};
 
 use crate::left::run_left;
 use crate::told::{BAD_LENGTH, BUFFER_SHORT};
-use multiportgraph::lent_graph::LentGraph;
-use port_tables::index::{NODE_SLOTS, PORT_SLOTS};
+use multiportgraph::multiportgraph::MultiPortGraph;
+use port_tables::index::{MOST_WIRES, NODE_SLOTS};
 use port_tables::release::Release;
 use records::words::put_words;
 
-// So many words the blocks take at most, and the wires, of which each has two port slots.
+// So many words the blocks take at most, and the wires.
 const BLOCK_WORDS: usize = 4 * NODE_SLOTS;
 
-const WIRE_WORDS: usize = 4 * PORT_SLOTS;
+const WIRE_WORDS: usize = 8 * MOST_WIRES;
 
 // Lays the blocks of a lent graph from a byte position on.
 // Stay two, this and the next: one for both would take the list as a closure, with its contract, and how many words an item has: longer than both.
-fn put_blocks(left: &LentGraph, view: &mut [u8], at: usize)
-    requires { MultiWf (graph_of left.now)
-        × (at + 16 * visible_nodes (graph_of left.now) ≤ length view.old) }
-    ensures { view.new ≡ sets view.old at (bytes_of (blocks_listed (graph_of left.now))) }
+fn put_blocks(left: &MultiPortGraph, view: &mut [u8], at: usize)
+    requires { MultiWf left.now
+        × (at + 16 * visible_nodes left.now ≤ length view.old) }
+    ensures { view.new ≡ sets view.old at (bytes_of (blocks_listed left.now)) }
 {
     let mut list = [0u32; BLOCK_WORDS];
-    let count = left.node_count();
-    // The list is long enough, so all are written.
+    // The list is long enough, so all are written, and the answer is their count: an `Err` would have to be told away.
     let _ = left.list_blocks(&mut list);
-    let end = 4 * count;
-    put_words(view, at, &list[..end]);
+    put_words(view, at, &list[..4 * left.node_count()]);
 }
 
 // Lays the wires of a lent graph from a byte position on.
-fn put_wires(left: &LentGraph, view: &mut [u8], at: usize)
-    requires { MultiWf (graph_of left.now)
-        × (at + 32 * visible_links (graph_of left.now) ≤ length view.old) }
-    ensures { view.new ≡ sets view.old at (bytes_of (wires_listed (graph_of left.now))) }
+fn put_wires(left: &MultiPortGraph, view: &mut [u8], at: usize)
+    requires { MultiWf left.now
+        × (at + 32 * visible_links left.now ≤ length view.old) }
+    ensures { view.new ≡ sets view.old at (bytes_of (wires_listed left.now)) }
 {
     let mut list = [0u32; WIRE_WORDS];
-    let count = left.link_count();
-    // The list is long enough, so all are written.
+    // The list is long enough, so all are written, and the answer is their count: an `Err` would have to be told away.
     let _ = left.list_wires(&mut list);
-    let end = 8 * count;
-    put_words(view, at, &list[..end]);
+    put_words(view, at, &list[..8 * left.link_count()]);
 }
 
 // Writes the view of a lent graph and answers its length, or 4,294,967,296 and 15 if the buffer is too short, which then stays as it was.
-fn view_in(left: &LentGraph, view: &mut [u8]) -> u64
-    requires { MultiWf (graph_of left.now) }
-    ensures { (result ≡ view_told (graph_of left.now) view.old)
-        × (view.new ≡ list_after (view_bytes (graph_of left.now)) view.old) }
+fn view_in(left: &MultiPortGraph, view: &mut [u8]) -> u64
+    requires { MultiWf left.now }
+    ensures { (result ≡ view_told left.now view.old)
+        × (view.new ≡ list_after (view_bytes left.now) view.old) }
 {
     let blocks = left.node_count();
     let wires = left.link_count();
@@ -79,7 +74,7 @@ pub fn view_of_records(requests: &[u8], view: &mut [u8]) -> u64
     if requests.len() % 20 != 0 {
         return BAD_LENGTH;
     }
-    let mut graph = LentGraph::new(Release::One);
+    let mut graph = MultiPortGraph::new(Release::One);
     run_left(&mut graph, requests);
     view_in(&graph, view)
 }

@@ -39,10 +39,6 @@ use Rattle.multi_tables.specs.declared.answers.SubportIndex.{SubportIndex}
 
 -- What a `?` passes on.
 
-pub err_is : {T E : Type 0} {e : E} (r : Result T E) → IsErrAnd r (λ told. told ≡ e) → r ≡ Err e
-err_is (Ok x) h = absurd h
-err_is (Err x) h = ap (λ told. Err told) h
-
 pub err_says : {T E : Type 0} (P : T → Type 0) (Q : E → Type 0) {e : E} (r : Result T E) → IsErrAnd r (λ told. told ≡ e) → Q e → MatchResult r P Q
 err_says P Q (Ok x) h q = absurd h
 err_says P Q (Err x) h q = subst Q (sym h) q

@@ -1,12 +1,16 @@
 -- What the functions that hold a file against its layout cite: units from the front, one after the other; what each says by itself; and
 -- how many blocks and wires they have.
-use Rattle.std.specs.List.{list_all}
-use Rattle.std.specs.Prelude.{◌≡◌, refl, Bool, true, false, cond, ◌&&◌, leb, take}
-use Rattle.std.proofs.Math.Path.{sym, ap}
-use Rattle.std.proofs.Common.{◌∙◌, length-append, eqb-true, eq-eqb, ne_eqb, leb-true, leb-false, le-leb}
+use Rattle.std.specs.Iterator.Runs.{Run, AllItemsGive, AnyItemGives, CallKeepsClosure, IsChunksExactRun}
+use denote.Param.Members.{Mut, Called}
+use Rattle.std.specs.Option.{option_map}
+use Rattle.std.specs.List.{list_all, IsSubsliceAt}
+use Rattle.std.specs.Prelude.{slice_index_or, Option, Some, None, IsSomeAnd, MatchBool, ◌≡◌, refl, Bool, true, false, cond, ◌&&◌, leb, take}
+use Rattle.std.proofs.Math.Path.{sym, ap, subst}
+use Rattle.std.proofs.Common.{Bor, ◌∙◌, length-append, eqb-true, eq-eqb, ne_eqb, leb-true, leb-false, le-leb}
 use Rattle.std.proofs.Math.Bool.{and_assoc, and-false}
 use mathlib.Core.List.{◌++◌, List, [], ◌∷◌, map, append_assoc, append-nil}
-use Rattle.std.proofs.lemmas.List.{drop-append-le}
+use Rattle.std.proofs.lemmas.List.{drop-append-le, drop-drop}
+use Rattle.std.proofs.Math.Nat.{suc-mul}
 use Prim.Native.Nat.{ℕ, zero, suc, ◌+◌, ◌-◌, ◌*◌, ◌/◌, ◌%◌, ◌≤◌, ◌<◌}
 use native.Mathlib.Omega.{arith}
 use Rattle.std.proofs.Math.Dec.{eqb}
@@ -19,14 +23,11 @@ use Rattle.files.specs.View.{View}
 use Rattle.files.specs.Layout.{Record, unit_records, field_at, word_at, sum_of, block_of, wire_of, record_at, records_at, records_of, with_records, with_unit, read_units, unbytes}
 use Rattle.files.specs.Loading.{sum_holds, units_in, unit_list, is_whole, kind_of, count_of, of_kind, kinds_right, goes_on, counts_right, block_zeros, zeros_right, units_right}
 use Rattle.files.specs.LaidLaws.{both_true, field_taken, records_many}
-use Rattle.files.specs.WrittenLaws.{records_taken}
+use Rattle.files.specs.WrittenLaws.{records_taken, word_taken}
+use Rattle.files.specs.UnitSteps.{there}
 use Rattle.files.specs.LoadForms.{next_kind, kind_fits, count_fits, unit_fits, units_fit, ShapeIs}
 
 -- Sums.
-
-word_taken : (n i : ℕ) (l : List ℕ) → i + 4 ≤ n → word_at (take n l) i ≡ word_at l i
-unfolding word_at
-word_taken n i l h = let a = field_taken n i l (omega arith) in let b = field_taken n (i + 2) l (omega arith) in λ j. a j + 65536 * b j
 
 pub sum_is : (unit : List ℕ) (a b : ℕ) → length unit ≡ 512 → a ≡ word_at unit 508 → b ≡ sum_of (take 508 unit) → eqb a b ≡ sum_holds unit
 unfolding sum_holds sum_of
@@ -61,44 +62,84 @@ pub none_left : (l : List ℕ) → length l ≤ 0 → l ≡ []
 none_left [] h = refl
 none_left (x ∷ l) h = absurd (omega arith)
 
+-- Chunks of one length, each of which passes a test, or one of which does not.
+
+unfoldable pub chunks : ℕ → ℕ → List ℕ → List (List ℕ)
+chunks n zero l = []
+chunks n (suc m) l = take n l ∷ chunks n m (drop n l)
+
+-- the chunk of a number
+abbrev chunk : ℕ → List ℕ → ℕ → List ℕ
+chunk n l k = take n (drop (k * n) l)
+
+chunk_later : (n : ℕ) (l : List ℕ) (k : ℕ) → chunk n (drop n l) k ≡ chunk n l (suc k)
+chunk_later n l k =
+    let s = suc-mul k n in
+    ap (take n) (drop-drop (k * n) n l ∙ ap (λ (m : ℕ). drop m l) (omega arith))
+
+chunks_pass : (test : List ℕ → Bool) (n m : ℕ) (l : List ℕ) → ((k : ℕ) → k < m → test (chunk n l k) ≡ true) → list_all test (chunks n m l) ≡ true
+unfolding chunks
+chunks_pass test n zero l h = refl
+chunks_pass test n (suc m) l h =
+    let z : 0 * n ≡ 0 = omega arith in
+    let first : test (take n l) ≡ true = ap (λ (j : ℕ). test (take n (drop j l))) (sym z) ∙ h 0 (omega arith) in
+    let later = chunks_pass test n m (drop n l) (λ k j. ap test (chunk_later n l k) ∙ h (suc k) (omega arith)) in
+    λ i. first i && later i
+
+chunks_fail : (test : List ℕ → Bool) (n m : ℕ) (l : List ℕ) (k : ℕ) → k < m → test (chunk n l k) ≡ false → list_all test (chunks n m l) ≡ false
+unfolding chunks
+chunks_fail test n zero l k h e = absurd (omega arith)
+chunks_fail test n (suc m) l zero h e =
+    let z : 0 * n ≡ 0 = omega arith in
+    let first : test (take n l) ≡ false = ap (λ (j : ℕ). test (take n (drop j l))) (sym z) ∙ e in
+    ap (λ (b : Bool). b && list_all test (chunks n m (drop n l))) first
+chunks_fail test n (suc m) l (suc k) h e = go (test (take n l)) (chunks_fail test n m (drop n l) k (omega arith) (ap test (chunk_later n l k) ∙ e))
+  where
+    go : (b : Bool) → list_all test (chunks n m (drop n l)) ≡ false → (b && list_all test (chunks n m (drop n l))) ≡ false
+    go true q = q
+    go false q = refl
+
+found : {A : Type 0} (P : A → Type 0) (o : Option A) (z : A) → IsSomeAnd o P → option_map (λ y. y) o ≡ Some z → P z
+found P None z s e = absurd s
+found P (Some y) z s e = let q : y ≡ z = cc in subst P q s
+
+-- what `all` says of a run over them: each passed, or one did not
+module _ {S F : Type 0} {steps : S → Option (Bor (List ℕ)) → S → Type 0} (n : ℕ) (l : Bor (List ℕ)) (small : (k : ℕ) → k * n + n ≤ length l.now → k < length l.now / n) (test : List ℕ → Bool) {g : Mut F (Bor (List ℕ) × Unit {0}) Bool} {f : F}
+    (said : (x : Bor (List ℕ)) (b : Bool) → Called g f (x, tt) b f → b ≡ test x.now) (keeps : CallKeepsClosure g f) where
+  pub chunks_tested : (p : Run steps) → IsChunksExactRun p n l.now → (b : Bool) → MatchBool b ((p.whole ≡ true) × AllItemsGive p g f true) (AnyItemGives p g f false) → b ≡ list_all test (chunks n (length l.now / n) l.now)
+  chunks_tested p r true h =
+      sym (chunks_pass test n (length l.now / n) l.now
+      (λ k j.
+      let d = p.reads k l (subst (λ (m : ℕ). k < m) (sym (r.1 h.0)) j) in
+      let t = there (λ x. Called g f (x, tt) true f) (p.at k) (slice_index_or p.items k l) (h.1 keeps k) d in
+      let e = there (λ (x : Bor (List ℕ)). (length x.now ≡ n) × (k * n + n ≤ length l.now) × IsSubsliceAt n l.now (k * n) x.now) (p.at k) (slice_index_or p.items k l) (r.2 k) d in
+      ap test (sym e.2.0) ∙ sym (said (slice_index_or p.items k l) true t)))
+  chunks_tested p r false h =
+      let a = h keeps in
+      let k = a.0 in
+      let d = p.reads k l a.1 in
+      let t = found (λ x. Called g f (x, tt) false f) (p.at k) (slice_index_or p.items k l) a.2 d in
+      let e = there (λ (x : Bor (List ℕ)). (length x.now ≡ n) × (k * n + n ≤ length l.now) × IsSubsliceAt n l.now (k * n) x.now) (p.at k) (slice_index_or p.items k l) (r.2 k) d in
+      sym (chunks_fail test n (length l.now / n) l.now k (small k e.1) (ap test (sym e.2.0) ∙ sym (said (slice_index_or p.items k l) false t)))
+
 -- Whole files.
 
-pub record Summing (file rest : List ℕ) : Type 0 where
-  pub whole : length rest % 512 ≡ 0
-  pub same : list_all sum_holds (unit_list rest) ≡ is_whole file
-
-pub odd_file : (file : List ℕ) → (length file % 512 ≡ 0 → ⊥) → false ≡ is_whole file
+pub odd_file : (file : List ℕ) → (length file % 512 ≡ 0 → ⊥) → eqb (length file % 512) 0 ≡ is_whole file
 unfolding is_whole
 odd_file file h = rw (ne_eqb (length file % 512) 0 h)
 
-pub sums_begin : (file : List ℕ) → length file % 512 ≡ 0 → Summing file file
-unfolding is_whole
-sums_begin file h = record { whole = h; same = rw (eq-eqb (length file % 512) 0 h) }
+units_are : (m : ℕ) (l : List ℕ) → chunks 512 m l ≡ units_in m l
+unfolding chunks units_in
+units_are zero l = refl
+units_are (suc m) l = ap (λ k. take 512 l ∷ k) (units_are m (drop 512 l))
 
-module _ {file rest : List ℕ} (s : Summing file rest) where
-  module _ (unit next : List ℕ) (e : rest ≡ unit ++ next) (n : length unit ≡ 512) where
-    some : 0 < length rest
-    some = let a = ap length e ∙ length-append unit next in omega arith
-
-    on : list_all sum_holds (unit_list rest) ≡ (sum_holds unit && list_all sum_holds (unit_list next))
-    on =
-        let a : take 512 rest ≡ unit = ap (take 512) e ∙ take_at unit next 512 n in
-        let b : drop 512 rest ≡ next = ap (drop 512) e ∙ drop_at unit next 512 n in
-        ap (list_all sum_holds) (units_on rest some s.whole) ∙ (λ i. sum_holds (a i) && list_all sum_holds (unit_list (b i)))
-
-    pub sum_wrong : sum_holds unit ≡ false → false ≡ is_whole file
-    sum_wrong h = sym (on ∙ ap (λ (b : Bool). b && list_all sum_holds (unit_list next)) h) ∙ s.same
-
-    pub sum_right : sum_holds unit ≡ true → Summing file next
-    sum_right h =
-        record {
-          whole = let a = ap length e ∙ length-append unit next in let w = s.whole in omega arith;
-          same = sym (on ∙ ap (λ (b : Bool). b && list_all sum_holds (unit_list next)) h) ∙ s.same;
-        }
-
-  pub sums_end : length rest < 512 → true ≡ is_whole file
-  unfolding unit_list units_in
-  sums_end h = let w = s.whole in ap (λ (l : List ℕ). list_all sum_holds (unit_list l)) (sym (none_left rest (omega arith))) ∙ s.same
+module _ {S F : Type 0} {steps : S → Option (Bor (List ℕ)) → S → Type 0} {g : Mut F (Bor (List ℕ) × Unit {0}) Bool} {f : F} (l : Bor (List ℕ)) (p : Run steps) (r : IsChunksExactRun p 512 l.now) (b : Bool)
+    (h : MatchBool b ((p.whole ≡ true) × AllItemsGive p g f true) (AnyItemGives p g f false)) (said : (x : Bor (List ℕ)) (b : Bool) → Called g f (x, tt) b f → b ≡ sum_holds x.now) (keeps : CallKeepsClosure g f) where
+  pub units_tested : length l.now % 512 ≡ 0 → b ≡ is_whole l.now
+  unfolding is_whole unit_list
+  units_tested e =
+      chunks_tested 512 l (λ k h. omega arith) sum_holds said keeps p r b h
+      ∙ (ap (list_all sum_holds) (units_are (length l.now / 512) l.now) ∙ ap (λ (t : Bool). t && list_all sum_holds (units_in (length l.now / 512) l.now)) (sym (eq-eqb (length l.now % 512) 0 e)))
 
 -- Zeros.
 
@@ -111,42 +152,19 @@ two_zeros c d = go (eqb 0 c) refl (eqb 0 d) refl
     go true e false f = let q = eqb-false 0 d f in sym (ne_eqb (c + 65536 * d) 0 (λ z. q (omega arith)))
     go false e t f = let p = eqb-false 0 c e in sym (ne_eqb (c + 65536 * d) 0 (λ z. p (omega arith)))
 
--- the records that are left amount to all
-pub record Zeroing (records rest : List ℕ) : Type 0 where
-  pub whole : length rest % 8 ≡ 0
-  pub same : list_all block_zeros (records_at (length rest / 8) rest) ≡ list_all block_zeros (records_at (length records / 8) records)
+records_are : (m : ℕ) (l : List ℕ) → list_all (λ c. eqb (word_at c 4) 0) (chunks 8 m l) ≡ list_all block_zeros (records_at m l)
+unfolding chunks records_at record_at word_at
+records_are zero l = refl
+records_are (suc m) l =
+    let c = field_taken 8 4 l (omega arith) in
+    let d = field_taken 8 6 l (omega arith) in
+    let first = sym (two_zeros (field_at (take 8 l) 4) (field_at (take 8 l) 6)) ∙ (λ i. eqb 0 (c i) && eqb 0 (d i)) in
+    λ i. first i && records_are m (drop 8 l) i
 
-module _ {records rest : List ℕ} (s : Zeroing records rest) where
-  module _ (one next : List ℕ) (e : rest ≡ one ++ next) (n : length one ≡ 8) where
-    first : block_zeros (record_at rest) ≡ eqb (word_at one 4) 0
-    unfolding record_at word_at
-    first =
-        let a : take 8 rest ≡ one = ap (take 8) e ∙ take_at one next 8 n in
-        let c = sym (field_taken 8 4 rest (omega arith)) ∙ ap (λ (l : List ℕ). field_at l 4) a in
-        let d = sym (field_taken 8 6 rest (omega arith)) ∙ ap (λ (l : List ℕ). field_at l 6) a in
-        (λ i. eqb 0 (c i) && eqb 0 (d i)) ∙ two_zeros (field_at one 4) (field_at one 6)
-
-    zeros_on : list_all block_zeros (records_at (length rest / 8) rest) ≡ (eqb (word_at one 4) 0 && list_all block_zeros (records_at (length next / 8) next))
-    unfolding records_at
-    zeros_on =
-        let l = ap length e ∙ length-append one next in
-        let k : length rest / 8 ≡ suc (length next / 8) = omega arith in
-        let b : drop 8 rest ≡ next = ap (drop 8) e ∙ drop_at one next 8 n in
-        ap (λ (m : ℕ). list_all block_zeros (records_at m rest)) k ∙ (λ i. first i && list_all block_zeros (records_at (length next / 8) (b i)))
-
-    pub zeros_not : (word_at one 4 ≡ 0 → ⊥) → false ≡ list_all block_zeros (records_at (length records / 8) records)
-    zeros_not h = sym (zeros_on ∙ ap (λ (b : Bool). b && list_all block_zeros (records_at (length next / 8) next)) (ne_eqb (word_at one 4) 0 h)) ∙ s.same
-
-    pub zeros_next : word_at one 4 ≡ 0 → Zeroing records next
-    zeros_next h =
-        record {
-          whole = let a = ap length e ∙ length-append one next in let w = s.whole in omega arith;
-          same = sym (zeros_on ∙ ap (λ (b : Bool). b && list_all block_zeros (records_at (length next / 8) next)) (eq-eqb (word_at one 4) 0 h)) ∙ s.same;
-        }
-
-  pub zeros_end : length rest < 8 → true ≡ list_all block_zeros (records_at (length records / 8) records)
-  unfolding records_at
-  zeros_end h = let z : length rest / 8 ≡ 0 = omega arith in sym (ap (λ (m : ℕ). list_all block_zeros (records_at m rest)) z) ∙ s.same
+module _ {S F : Type 0} {steps : S → Option (Bor (List ℕ)) → S → Type 0} {g : Mut F (Bor (List ℕ) × Unit {0}) Bool} {f : F} (l : Bor (List ℕ)) (p : Run steps) (r : IsChunksExactRun p 8 l.now) (b : Bool)
+    (h : MatchBool b ((p.whole ≡ true) × AllItemsGive p g f true) (AnyItemGives p g f false)) (said : (x : Bor (List ℕ)) (b : Bool) → Called g f (x, tt) b f → b ≡ eqb (word_at x.now 4) 0) (keeps : CallKeepsClosure g f) where
+  pub zeros_tested : b ≡ list_all block_zeros (records_at (length l.now / 8) l.now)
+  zeros_tested = chunks_tested 8 l (λ k h. omega arith) (λ c. eqb (word_at c 4) 0) said keeps p r b h ∙ records_are (length l.now / 8) l.now
 
 -- those of a unit that are lent
 pub zeros_lent : (unit : List ℕ) (count : ℕ) {b : Bool} → length unit ≡ 512 → count ≤ unit_records →

@@ -14,7 +14,6 @@ use Rattle.files.specs.Layout.{units_for, bytes_of, file_length, unbytes}
 use Rattle.files.specs.Saving.{file_of, save_answer}
 use Rattle.files.specs.Claims.{HasBlock, same_wire, wires_between, SameWiring, WithinLimits, At, how_many, AtMost, longest_file}
 use Rattle.files.specs.LayoutLaws as layout
-use Rattle.files.specs.LayoutLaws.{ViewFits}
 use Rattle.files.specs.ViewLaws as views
 use Rattle.files.specs.WiringLaws as wiring
 

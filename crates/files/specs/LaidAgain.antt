@@ -16,8 +16,8 @@ use Rattle.port_tables.specs.Lists.{Member}
 use Rattle.multiportgraph.specs.HiddenStays.{true_not_false}
 use Rattle.port_tables.specs.Listing.{member_left, member_right, member_map}
 use Rattle.files.specs.View.{View}
-use Rattle.files.specs.Layout.{Record, block_record, wire_record, field_bytes, word_bytes, field_at, word_at, record_bytes, unit_records, unit_head, sum_of, unit, units_for, units_from, units_of, bytes_of, records_of, unbytes}
-use Rattle.files.specs.LayoutLaws.{AllFit, ViewFits, records_length, head_length, unit_length, taken_few, units_length, unit_then, kind_read, unit_read, units_enough, view_read_back}
+use Rattle.files.specs.Layout.{Record, block_record, wire_record, field_bytes, word_bytes, field_at, word_at, record_bytes, unit_records, unit_head, sum_of, unit, units_for, units_from, units_of, bytes_of, records_of, unbytes, AllFit, ViewFits}
+use Rattle.files.specs.LayoutLaws.{records_length, head_length, unit_length, taken_few, units_length, unit_then, kind_read, unit_read, units_enough, view_read_back}
 use Rattle.files.specs.Loading.{sum_holds, units_in, unit_list, is_whole, kind_of, count_of, of_kind, kinds_right, goes_on, counts_right, zeros_from, block_zeros, zeros_right, units_right, view_right, is_laid}
 use Rattle.files.specs.Claims.{Sound}
 use Rattle.files.specs.LaidLaws.{both_true, field_taken, UnitOf, Units}

@@ -5,6 +5,7 @@ use Rattle.std.specs.Prelude.{◌≡◌, refl, Bool, true, false, cond, ◌&&◌
 use Rattle.std.proofs.Common.{sym, ap, ◌∙◌, subst, arith, length-append, drop-drop, get_or-take, get_or-append-add, eqb-true, eq-eqb, leb-true, ltb-true, ltb-false}
 use Rattle.std.proofs.Math.ListN.{get_or-append}
 use Rattle.multiportgraph.specs.HiddenStays.{true_not_false}
+use Rattle.std.proofs.lemmas.List.{map-append}
 use Rattle.port_tables.specs.Listing.{length_map}
 use Rattle.files.specs.View.{BlockPorts, RankWire, View}
 use Rattle.files.specs.Layout.{Record, field_at, unit_records, units_for, block_of, wire_of, record_at, records_at, records_of, read_units, unbytes}
@@ -152,16 +153,12 @@ pub record Parts (n : ℕ) (bytes : List ℕ) : Type 0 where
   pub wires : Units 2 second (drop (512 * first) bytes)
 
 -- what they say
-map_both : {A B : Type 0} (f : A → B) (x y : List A) → map f x ++ map f y ≡ map f (x ++ y)
-map_both f [] y = refl
-map_both f (e ∷ x) y = ap (λ k. f e ∷ k) (map_both f x y)
-
 wires_said : (n : ℕ) (bytes : List ℕ) → Units 2 n bytes → read_units n bytes ≡ record { blocks = []; wires = map wire_of (records_in n bytes) }
 unfolding read_units records_in
 wires_said zero bytes u = refl
 wires_said (suc n) bytes u =
     let r = wires_said n (drop 512 bytes) u.1 in
-    let e = map_both wire_of (records_of bytes) (records_in n (drop 512 bytes)) in
+    let e = sym (map-append wire_of (records_of bytes) (records_in n (drop 512 bytes))) in
     rw (u.0.kind_is, r) (λ i. record { blocks = []; wires = e i })
 
 parts_said : (p q : ℕ) (bytes : List ℕ) → Units 1 p bytes → Units 2 q (drop (512 * p) bytes) →
@@ -173,7 +170,7 @@ parts_said (suc p) q bytes u v =
     let d : drop (512 * suc p) bytes ≡ drop (512 * p) (drop 512 bytes) =
     let z : 512 * suc p ≡ 512 + 512 * p = omega arith in ap (λ (m : ℕ). drop m bytes) z ∙ sym (drop-drop (512 * p) 512 bytes) in
     let r = parts_said p q (drop 512 bytes) u.1 (subst (Units 2 q) d v) in
-    let e = map_both block_of (records_of bytes) (records_in p (drop 512 bytes)) in
+    let e = sym (map-append block_of (records_of bytes) (records_in p (drop 512 bytes))) in
     rw n (rw (u.0.kind_is, r) (λ i. record { blocks = e i; wires = map wire_of (records_in q (sym d i)) }))
 
 -- Where the tests hold.

@@ -1,7 +1,8 @@
 -- The bytes of a view, as Req 05 lays them: units of 512 bytes, blocks first. And what a file says: the view that is read off its
 -- bytes, whatever they are.
-use Rattle.std.specs.Prelude.{Bool, true, false, ℕ, zero, suc, ◌+◌, ◌-◌, ◌*◌, ◌/◌, ◌%◌, eqb, length, get_or, take, drop, replicate}
+use Rattle.std.specs.Prelude.{Bool, true, false, ℕ, zero, suc, ◌+◌, ◌-◌, ◌*◌, ◌/◌, ◌%◌, ◌<◌, eqb, length, get_or, take, drop, replicate}
 use mathlib.Core.List.{List, [], ◌∷◌, ◌++◌, map, flat_map}
+use Rattle.port_tables.specs.Lists.{Member}
 use Rattle.portgraph.specs.Model.{total}
 use Rattle.files.specs.View.{BlockPorts, RankWire, View}
 
@@ -19,6 +20,22 @@ block_record x = record { a = x.incoming; b = x.outgoing; c = 0; d = 0 }
 -- source rank, output position, target rank, input position
 abbrev pub wire_record : RankWire → Record
 wire_record w = record { a = w.source; b = w.output; c = w.target; d = w.input }
+
+-- What fits.
+
+-- no field passes 16 bits
+pub record FieldsFit (r : Record) : Type 0 where
+  pub a : r.a < 65536
+  pub b : r.b < 65536
+  pub c : r.c < 65536
+  pub d : r.d < 65536
+
+abbrev pub AllFit : List Record → Type 0
+AllFit records = (r : Record) → Member r records → FieldsFit r
+
+-- all records fit where the numbers of the view do
+abbrev pub ViewFits : View → Type 0
+ViewFits v = AllFit (map block_record v.blocks) × AllFit (map wire_record v.wires)
 
 -- Numbers in bytes, the least significant byte first.
 

@@ -8,17 +8,7 @@ use Rattle.std.proofs.lemmas.List.{length-replicate}
 use Rattle.port_tables.specs.Lists.{Member}
 use Rattle.port_tables.specs.Listing.{member_left, member_right, length_map}
 use Rattle.files.specs.View.{BlockPorts, RankWire, View}
-use Rattle.files.specs.Layout.{Record, block_record, wire_record, field_bytes, word_bytes, field_at, record_bytes, unit_records, unit_head, sum_of, unit, units_for, units_from, units_of, bytes_of, file_length, block_of, wire_of, record_at, records_at, records_of, empty_view, with_records, with_unit, read_units, unbytes}
-
--- no field passes 16 bits
-pub record FieldsFit (r : Record) : Type 0 where
-  pub a : r.a < 65536
-  pub b : r.b < 65536
-  pub c : r.c < 65536
-  pub d : r.d < 65536
-
-abbrev pub AllFit : List Record → Type 0
-AllFit records = (r : Record) → Member r records → FieldsFit r
+use Rattle.files.specs.Layout.{Record, FieldsFit, AllFit, ViewFits, block_record, wire_record, field_bytes, word_bytes, field_at, record_bytes, unit_records, unit_head, sum_of, unit, units_for, units_from, units_of, bytes_of, file_length, block_of, wire_of, record_at, records_at, records_of, empty_view, with_records, with_unit, read_units, unbytes}
 
 -- Lengths.
 
@@ -146,10 +136,6 @@ units_read kind k (suc n) j records l h f =
     let c = drop_at (unit kind first) (units_from kind n later ++ l) 512 (unit_length kind first few) in
     rw (e, append_assoc (unit kind first) (units_from kind n later) l)
     (rw (a, b, c, rest) (with_both (eqb kind 1) first later (read_units j l) ∙ ap (λ (x : List Record). with_unit kind x (read_units j l)) whole))
-
--- all records fit where the numbers of the view do
-abbrev pub ViewFits : View → Type 0
-ViewFits v = AllFit (map block_record v.blocks) × AllFit (map wire_record v.wires)
 
 blocks_back : (l : List BlockPorts) → map block_of (map block_record l) ≡ l
 blocks_back [] = refl

@@ -13,6 +13,7 @@ use Rattle.std.proofs.lemmas.List.Edits.{sets-eq}
 use Rattle.std.proofs.lemmas.Bool.{lt-leb}
 use Rattle.port_tables.specs.Limits.{node_slots, port_slots}
 use Rattle.port_tables.specs.ResizeLinkSteps.{sets_append}
+use Rattle.port_tables.specs.TableSteps.{passed_on}
 use Rattle.multiportgraph.specs.HiddenStays.{true_not_false}
 use Rattle.multiportgraph.specs.Graph.{empty_graph}
 use Rattle.multiportgraph.specs.Listed.{list_after}
@@ -31,7 +32,7 @@ use Rattle.files.specs.ViewLaws.{wires_few}
 use Rattle.files.specs.SoundLaws.{laid_sound}
 use Rattle.files.specs.BuildLaws.{built_view}
 use Rattle.files.specs.LoadForms.{place_of, record_in, no_wire, BlocksRead, WiresRead, Laid}
-use Rattle.files.specs.BuildSteps.{err_is, is_loaded, adds_few, first_refused}
+use Rattle.files.specs.BuildSteps.{is_loaded, adds_few, first_refused}
 use Rattle.files.specs.declared.load.LoadError.{LoadError}
 use Rattle.files.specs.declared.load.LoadError.TheVariants.{BadSums, BadLayout}
 use Rattle.files.specs.declared.check.Shape.{Shape}
@@ -134,7 +135,7 @@ module _ {bytes : List ℕ} {n w : ℕ} (l : Laid bytes n w) where
 module _ (release : Release) (bytes numbers : List ℕ) where
   pub list_refused : {r : LoadError} (a : Result Shape LoadError) → IsErrAnd a (λ told. told ≡ r) → load_answer release bytes ≡ Err r → (a ≡ list_build release bytes) × (numbers ≡ build_after release bytes numbers)
   unfolding list_build build_after
-  list_refused a h e = rw e (err_is a h, refl)
+  list_refused a h e = rw e (passed_on h, refl)
 
   pub list_done : {blocks wires : ℕ} → Laid bytes blocks wires → Ok tt ≡ load_answer release bytes → {numbers' : List ℕ} →
       numbers' ≡ list_after (build_numbers (unbytes bytes)) numbers → (Ok (record { blocks = blocks; wires = wires }) ≡ list_build release bytes) × (numbers' ≡ build_after release bytes numbers)

@@ -9,7 +9,7 @@ use Rattle.theorems.specs.History.{step}
 use Rattle.files.specs.View.{BlockPorts, RankWire}
 use Rattle.files.specs.Layout.{Record, field_at, block_of, wire_of, unit_records, units_for, unbytes}
 use Rattle.files.specs.Loading.{kind_of, count_of, unit_list, zeros_right, units_right, ranks_right, block_at, positions_right, view_right, is_whole, is_laid, first_port, after_call, first_refusal}
-use Rattle.files.specs.SortSteps.{wire_number}
+use Rattle.files.specs.Forms.{wire_number}
 use Rattle.files.specs.declared.load.LoadError.{LoadError}
 
 -- Units.

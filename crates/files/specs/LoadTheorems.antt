@@ -14,11 +14,11 @@ use Rattle.theorems.proofs.CallLaws.{rel_run}
 use Rattle.theorems.specs.Runs.{run_append}
 use Rattle.theorems.specs.ReleaseClaims.{for_release}
 use Rattle.files.specs.View.{View, view_of}
-use Rattle.files.specs.Layout.{bytes_of, unbytes}
+use Rattle.files.specs.Layout.{bytes_of, unbytes, ViewFits}
 use Rattle.files.specs.Saving.{file_of}
 use Rattle.files.specs.Loading.{is_whole, is_laid, build_of, first_refusal, load_answer, load_graph, load_graph_under}
 use Rattle.files.specs.Claims.{SameWiring, Sound, Bytes}
-use Rattle.files.specs.LayoutLaws.{ViewFits, view_read_back}
+use Rattle.files.specs.LayoutLaws.{view_read_back}
 use Rattle.files.specs.ViewLaws.{view_fits}
 use Rattle.files.specs.ViewSound.{view_sound}
 use Rattle.files.specs.WrittenLaws.{laid_written}

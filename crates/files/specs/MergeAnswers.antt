@@ -19,8 +19,8 @@ use Rattle.multi_tables.specs.declared.answers.Refusal.TheVariants.{NoRoom}
 use Rattle.theorems.specs.History.{run}
 use Rattle.theorems.proofs.CallLaws.{rel_run}
 use Rattle.files.specs.View.{BlockPorts, View, rank_among, rank_wire, view_of}
-use Rattle.files.specs.Layout.{units_for, file_length, unbytes, read_units}
-use Rattle.files.specs.LayoutLaws.{ViewFits, file_length_lem, view_read_back}
+use Rattle.files.specs.Layout.{units_for, file_length, unbytes, read_units, ViewFits}
+use Rattle.files.specs.LayoutLaws.{file_length_lem, view_read_back}
 use Rattle.files.specs.Loading.{is_whole, is_laid, units_in, unit_list, units_right, kinds_right, counts_right, view_right, order_right, build_of, first_refusal, first_refusal_under, load_answer, load_answer_under}
 use Rattle.files.specs.Claims.{Bytes, Sound, longest_file}
 use Rattle.files.specs.LoadClaims.{BuildRefused, build_many, build_no_block, build_wired, build_no_wire}

@@ -6,11 +6,11 @@ use Rattle.std.proofs.Math.Path.{subst}
 use Rattle.std.proofs.Math.Logic.{⊎_elim}
 use Rattle.std.proofs.Math.ListN.{length, get_or-append}
 use Rattle.std.proofs.lemmas.Bool.{eqb-false}
+use Rattle.std.proofs.lemmas.List.{map-append}
 use Rattle.port_tables.specs.Lists.{Member, Rising}
 use Rattle.port_tables.specs.Listing.{member_append, member_map, map_member, rising_append}
 use Rattle.files.specs.View.{BlockPorts, RankWire, View, by_first, is_before, insert, insert_all}
-use Rattle.files.specs.Layout.{block_record, wire_record, empty_view}
-use Rattle.files.specs.LayoutLaws.{FieldsFit, ViewFits}
+use Rattle.files.specs.Layout.{block_record, wire_record, empty_view, FieldsFit, ViewFits}
 use Rattle.files.specs.Loading.{block_at}
 use Rattle.files.specs.Claims.{AtMost, Sound}
 use Rattle.files.specs.Merging.{raised, merged_view}
@@ -81,10 +81,6 @@ map_unraised (w ∷ l) =
     let b : 0 + w.target ≡ w.target = omega arith in
     let r = map_unraised l in
     λ j. record { source = a j; output = w.output; target = b j; input = w.input } ∷ r j
-
-pub map_both : {A B : Type 0} (f : A → B) (a b : List A) → map f (a ++ b) ≡ map f a ++ map f b
-map_both f [] b = refl
-map_both f (x ∷ a) b = ap (λ k. f x ∷ k) (map_both f a b)
 
 -- The result of two sound views.
 
@@ -179,7 +175,7 @@ merged_grouping {u} {v} {w} r s t =
     let wires : (u.wires ++ map (raised n) v.wires) ++ map (raised (n + k)) w.wires ≡ u.wires ++ map (raised n) (v.wires ++ map (raised k) w.wires) =
     append_assoc u.wires (map (raised n) v.wires) (map (raised (n + k)) w.wires)
     ∙ ap (λ (l : List RankWire). u.wires ++ l)
-    (ap (λ (l : List RankWire). map (raised n) v.wires ++ l) (map_raised n k w.wires) ∙ sym (map_both (raised n) v.wires (map (raised k) w.wires))) in
+    (ap (λ (l : List RankWire). map (raised n) v.wires ++ l) (map_raised n k w.wires) ∙ sym (map-append (raised n) v.wires (map (raised k) w.wires))) in
     left
     ∙ ((λ j. record { blocks = (uv j).blocks ++ w.blocks; wires = (uv j).wires ++ map (raised (many j)) w.wires })
     ∙ ((λ j. record { blocks = append_assoc u.blocks v.blocks w.blocks j; wires = wires j })

@@ -11,14 +11,15 @@ use Rattle.std.proofs.lemmas.List.{take_all, take_more_set}
 use Rattle.std.proofs.lemmas.Slice.{take-put_mid}
 use borrow.Rule.Slice.PartMut.{put_mid}
 use borrow.Author.Tests.{le-leb, lt-leb}
+use Rattle.std.proofs.lemmas.List.{map-append}
 use Rattle.port_tables.specs.Lists.{range, Member}
 use Rattle.port_tables.specs.ResizeLinkSteps.{sets_append}
 use Rattle.multiportgraph.specs.Listed.{list_after}
 use Rattle.port_tables.specs.Listing.{length_map, length_range}
 use Rattle.port_tables.specs.declared.release.Release.TheVariants.{One}
 use Rattle.files.specs.View.{BlockPorts, RankWire, View}
-use Rattle.files.specs.Layout.{block_record, wire_record, field_at, units_for, units_of, bytes_of, file_length, unbytes}
-use Rattle.files.specs.LayoutLaws.{FieldsFit, ViewFits, units_length, file_length_lem, view_read_back}
+use Rattle.files.specs.Layout.{block_record, wire_record, field_at, units_for, units_of, bytes_of, file_length, unbytes, FieldsFit, ViewFits}
+use Rattle.files.specs.LayoutLaws.{units_length, file_length_lem, view_read_back}
 use Rattle.files.specs.Loading.{is_whole, is_laid, unit_list, units_right, view_right, block_at, load_answer}
 use Rattle.files.specs.Claims.{Bytes, Sound}
 use Rattle.files.specs.LaidLaws.{both_true}
@@ -30,7 +31,7 @@ use Rattle.files.specs.SaveSteps.{records_back}
 use Rattle.files.specs.WireSteps.{blocks_read, wires_read}
 use Rattle.files.specs.Merging.{raised, merged_view, merged_file, layout_answer, result_answer, merge_answer, buffer_if, merge_buffer}
 use Rattle.files.specs.MergeForms.{block_read, wire_read, RaisedFit, BothLaid, BothFew}
-use Rattle.files.specs.MergeLaws.{map_unraised, map_both, merged_appends, merged_sound, merged_fits}
+use Rattle.files.specs.MergeLaws.{map_unraised, merged_appends, merged_sound, merged_fits}
 use Rattle.files.specs.MergeAnswers.{loaded_few}
 use Rattle.files.specs.declared.load.LoadError.{LoadError}
 use Rattle.files.specs.declared.merge.MergeError.{MergeError}
@@ -124,7 +125,7 @@ number_stored f items i x n l h e t =
     let z : i ≡ 0 + i = omega arith in
     let s : suc i ≡ i + 1 = omega arith in
     take_more_set items i x (omega arith)
-    ∙ ((λ j. t j ++ ((e ∙ ap f z) j ∷ [])) ∙ (sym (map_both f (range 0 i) ((0 + i) ∷ [])) ∙ (ap (map f) (sym (range_last 0 i)) ∙ ap (λ (k : ℕ). map f (range 0 k)) s)))
+    ∙ ((λ j. t j ++ ((e ∙ ap f z) j ∷ [])) ∙ (sym (map-append f (range 0 i) ((0 + i) ∷ [])) ∙ (ap (map f) (sym (range_last 0 i)) ∙ ap (λ (k : ℕ). map f (range 0 k)) s)))
 
 pub numbers_all : (f : ℕ → ℕ) (items : List ℕ) (i n : ℕ) → length items ≡ n → i ≡ n → take i items ≡ map f (range 0 i) → items ≡ map f (range 0 n)
 numbers_all f items i n l e t = sym (take_all n items (omega arith)) ∙ rw e at t
@@ -150,15 +151,15 @@ module _ (first second : List ℕ) (small : Bytes first) (small₂ : Bytes secon
   both_block_records r s =
       let a = block_records_read first small n r in
       let b = block_records_read second small₂ k s in
-      map_both record_of (map (block_read first) (range 0 n)) (map (block_read second) (range 0 k)) ∙ ((λ j. a j ++ b j) ∙ sym (map_both block_record (unbytes first).blocks (unbytes second).blocks))
+      map-append record_of (map (block_read first) (range 0 n)) (map (block_read second) (range 0 k)) ∙ ((λ j. a j ++ b j) ∙ sym (map-append block_record (unbytes first).blocks (unbytes second).blocks))
 
   pub both_wire_records : (unit unit₂ raise : ℕ) → WiresRead first unit n → WiresRead second unit₂ k → RaisedFit second unit₂ k raise →
       map record_of (map (wire_read first unit 0) (range 0 n) ++ map (wire_read second unit₂ raise) (range 0 k)) ≡ map wire_record ((unbytes first).wires ++ map (raised raise) (unbytes second).wires)
   both_wire_records unit unit₂ raise r s fit =
       let a = wire_records_read first small unit n 0 r (unraised_fit first small unit n) ∙ ap (map wire_record) (map_unraised (unbytes first).wires) in
       let b = wire_records_read second small₂ unit₂ k raise s fit in
-      map_both record_of (map (wire_read first unit 0) (range 0 n)) (map (wire_read second unit₂ raise) (range 0 k))
-      ∙ ((λ j. a j ++ b j) ∙ sym (map_both wire_record (unbytes first).wires (map (raised raise) (unbytes second).wires)))
+      map-append record_of (map (wire_read first unit 0) (range 0 n)) (map (wire_read second unit₂ raise) (range 0 k))
+      ∙ ((λ j. a j ++ b j) ∙ sym (map-append wire_record (unbytes first).wires (map (raised raise) (unbytes second).wires)))
 
 -- The result of two laid files.
 

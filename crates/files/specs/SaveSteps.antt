@@ -1,6 +1,6 @@
 -- From the listings of a graph to its file: ranks off the table, the records of blocks and wires, and the buffer with both kinds of
 -- units in it.
-use Rattle.std.specs.Prelude.{◌≡◌, Bool, ◌⊎◌, set, take, Ok, Err}
+use Rattle.std.specs.Prelude.{◌≡◌, Bool, ◌⊎◌, set, take, max, Ok, Err}
 use Rattle.std.proofs.Math.Path.{refl, sym, ap, subst}
 use Rattle.std.proofs.Common.{◌∙◌, subst₂, inl, inr, mul-suc, length-append, length-set, take_at, get_or-append-add}
 use Rattle.std.proofs.Math.Bool.{true, false, cond}
@@ -13,6 +13,7 @@ use Rattle.std.proofs.Math.Seq.{sets, get_or-set_same, get_or-set_other}
 use Rattle.std.proofs.lemmas.List.Edits.{sets-eq}
 use Rattle.std.proofs.lemmas.List.{set_at}
 use borrow.Author.Tests.{eqb-true, eqb-false, le-leb, lt-leb}
+use Rattle.std.proofs.lemmas.Simd.{map-map}
 use Rattle.port_tables.specs.Limits.{node_slots, port_slots, node_ports}
 use Rattle.port_tables.specs.Lists.{range, Member, Rising}
 use Rattle.portgraph.specs.Model.{Model}
@@ -30,15 +31,15 @@ use Rattle.multiportgraph.specs.declared.multiportgraph.MultiPortGraph.{MultiPor
 use Rattle.multi_tables.specs.declared.answers.SubportLink.{SubportLink}
 use Rattle.theorems.proofs.PortListing.{rising_apart}
 use Rattle.files.specs.View.{BlockPorts, RankWire, rank_among, sorted, block_ports, rank_wire, view_of}
-use Rattle.files.specs.Layout.{Record, block_record, wire_record, units_for, units_of, bytes_of, file_length}
-use Rattle.files.specs.LayoutLaws.{FieldsFit, units_length}
+use Rattle.files.specs.Layout.{Record, block_record, wire_record, units_for, units_of, bytes_of, file_length, FieldsFit}
+use Rattle.files.specs.LayoutLaws.{units_length}
 use Rattle.files.specs.Saving.{file_of, save_answer, save_buffer}
 use Rattle.files.specs.Claims.{At}
 use Rattle.files.specs.OrderLaws.{sorted_member}
 use Rattle.files.specs.RankLaws.{at_member, rank_below, blocks_rise}
 use Rattle.files.specs.ViewLaws.{EndFits, walked_places, walked_fits, ports_small, node_in_use, blocks_few_lem, wires_few, file_length_is}
-use Rattle.files.specs.Forms.{number_of, record_of, turns, sorted_numbers, blocks_in, node_listed, block_listed, nodes_of, blocks_of, BlocksFit, rank_turn, block_turn, wires_in, wire_listed, wires_of, rank_read, WiresFit, wire_turn, Listings}
-use Rattle.files.specs.SortSteps.{number_back, wire_number, sorted_as_numbers}
+use Rattle.files.specs.Forms.{number_of, record_of, turns, sorted_numbers, blocks_in, node_listed, block_listed, nodes_of, blocks_of, BlocksFit, rank_turn, block_turn, wires_in, wire_listed, wires_of, rank_read, WiresFit, wire_turn, Listings, wire_number}
+use Rattle.files.specs.SortSteps.{number_back, sorted_as_numbers}
 
 -- Ranks.
 
@@ -110,10 +111,6 @@ records_back f (x ∷ l) h =
     let b = records_back f l (λ y i. h y (inr i)) in
     λ j. a j ∷ b j
 
-map_map : {A B C : Type 0} (f : A → B) (g : B → C) (l : List A) → map (λ x. g (f x)) l ≡ map g (map f l)
-map_map f g [] = refl
-map_map f g (x ∷ l) = ap (λ k. g (f x) ∷ k) (map_map f g l)
-
 -- the records that are written of the blocks of a listing
 pub block_records : (listed numbers : List ℕ) → blocks_in listed ≤ length numbers → BlocksFit listed →
     map record_of (take (blocks_in listed) (turns (block_turn listed) 0 (blocks_in listed) numbers)) ≡ map block_record (blocks_of listed)
@@ -122,7 +119,7 @@ block_records listed numbers h f =
     let n = blocks_in listed in
     ap (map record_of) (numbers_taken (λ j. number_of (block_record (block_listed listed j))) n numbers h)
     ∙ (records_back (λ j. block_record (block_listed listed j)) (range 0 n) (λ j i. let r = member_range j 0 n i in f j (omega arith))
-    ∙ map_map (block_listed listed) block_record (range 0 n))
+    ∙ sym (map-map block_record (block_listed listed) (range 0 n)))
 
 -- Records of wires.
 
@@ -182,7 +179,7 @@ module _ {listed ends : List ℕ} (table : List ℕ) (p : Listings listed ends (
       let n = wires_in ends in
       let ws = wires_of (rank_read ranks) ends in
       ap (λ (l : List ℕ). map record_of (sorted_numbers l))
-      (numbers_taken (λ j. number_of (wire_record (wire_listed (rank_read ranks) ends j))) n numbers h ∙ map_map (wire_listed (rank_read ranks) ends) wire_number (range 0 n))
+      (numbers_taken (λ j. number_of (wire_record (wire_listed (rank_read ranks) ends j))) n numbers h ∙ sym (map-map wire_number (wire_listed (rank_read ranks) ends) (range 0 n)))
       ∙ (ap (map record_of) (sorted_as_numbers ws wires_small)
       ∙ (records_back wire_record (sorted ws) (λ w i. wires_small w (sorted_member w ws i))
       ∙ ap (λ (k : List RankWire). map wire_record (sorted k)) wires_ranked))
@@ -329,7 +326,7 @@ module _ (m : MultiPortGraph) where
         let rank = rank_among (blocks m) in
         let w : wires_of (rank_among (nodes_of (blocks_listed m))) (wires_listed m) ≡ map (rank_wire rank) (wires_walked m) =
         ap (λ (l : List ℕ). wires_of (rank_among l) (wires_listed m)) nodes_are
-        ∙ (wires_are rank ∙ (map_map (wire_places m) (rank_wire rank) (all_wires m) ∙ ap (map (rank_wire rank)) (sym (walked_places f)))) in
+        ∙ (wires_are rank ∙ (sym (map-map (rank_wire rank) (wire_places m) (all_wires m)) ∙ ap (map (rank_wire rank)) (sym (walked_places f)))) in
         λ j. units_of 1 (map block_record (blocks_are j)) ++ units_of 2 (map wire_record (sorted (w j)))
 
 -- What saving answers and leaves.
@@ -338,6 +335,10 @@ module _ (m : MultiPortGraph) where
 pub listing_taken : (numbers list : List ℕ) (n : ℕ) → n ≡ length numbers → length numbers ≤ length list → take n (list_after numbers list) ≡ numbers
 unfolding list_after
 listing_taken numbers list n e h = rw (le-leb (length numbers) (length list) h, e) (take_at numbers (drop (length numbers) list) (length numbers) refl)
+
+-- lists for so many blocks and wires have room for fewer
+pub lists_long : {v w n k most m : ℕ} → n ≡ v → k ≡ w → most ≡ max n k → most ≤ m → (4 * v ≤ 4 * m) × (8 * w ≤ 8 * m) × (v ≤ m) × (w ≤ m)
+lists_long a b e h = (omega arith, omega arith, omega arith, omega arith)
 
 -- so many blocks and wires there are, and so many numbers are listed: there is room for them
 module _ {m : MultiPortGraph} {M : Model} (f : Fine m M) where

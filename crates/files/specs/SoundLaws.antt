@@ -6,10 +6,9 @@ use Rattle.std.proofs.lemmas.Bool.{not-true}
 use Rattle.port_tables.specs.Lists.{Member, Rising}
 use Rattle.port_tables.specs.Listing.{member_append, member_map, map_member}
 use Rattle.files.specs.View.{RankWire, View, is_before}
-use Rattle.files.specs.Layout.{Record, block_record, wire_record, field_at, block_of, wire_of, record_at, records_at, records_of, with_records, read_units, unbytes}
+use Rattle.files.specs.Layout.{Record, block_record, wire_record, field_at, block_of, wire_of, record_at, records_at, records_of, with_records, read_units, unbytes, FieldsFit, AllFit, ViewFits}
 use Rattle.files.specs.Loading.{block_at, order_right, ranks_right, positions_right, unit_list, units_right, view_right, is_laid}
 use Rattle.files.specs.Claims.{AtMost, Sound, Bytes}
-use Rattle.files.specs.LayoutLaws.{FieldsFit, AllFit, ViewFits}
 use Rattle.files.specs.OrderLaws.{at_most_twice}
 use Rattle.files.specs.LaidLaws.{both_true}
 use Rattle.files.specs.WrittenLaws.{bytes_after, field_small}

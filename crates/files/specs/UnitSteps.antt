@@ -1,19 +1,22 @@
 -- What the functions over units lay: the records of a unit, its sum, and unit after unit.
-use Rattle.std.specs.Prelude.{◌≡◌, Bool, true, false, leb, ℕ, zero, suc, ◌+◌, ◌-◌, ◌*◌, ◌/◌, ◌%◌, ◌≤◌, ◌<◌, min, get_or, take, drop, replicate}
-use Rattle.std.proofs.Math.Path.{refl, sym, ap}
-use Rattle.std.proofs.Common.{◌∙◌, leb-true, leb-false, length-drop, drop_of_length-le, drop-cons, length-take-le, get_or-append-add, take_at, drop_at, take_all}
+use Rattle.std.specs.Iterator.Runs.{Run, IsChunksExactRun}
+use Rattle.std.specs.Option.{option_map}
+use Rattle.std.specs.List.{IsSubsliceAt}
+use Rattle.std.specs.Prelude.{slice_index_or, fold, Option, Some, None, IfSome, ◌≡◌, Bool, true, false, leb, ℕ, suc, ◌+◌, ◌-◌, ◌*◌, ◌/◌, ◌%◌, ◌≤◌, ◌<◌, min, get_or, take, drop, replicate}
+use Rattle.std.proofs.Math.Path.{refl, sym, ap, subst}
+use Rattle.std.proofs.Common.{Bor, ◌∙◌, leb-true, leb-false, length-drop, drop_of_length-le, drop-cons, length-take-le, get_or-append-add, take_at, drop_at, take_all}
 use mathlib.Core.List.{List, [], ◌∷◌, ◌++◌, map, flat_map, append_assoc, append-nil}
 use native.Mathlib.Omega.{arith}
 use Rattle.std.proofs.Math.ListN.{length, length-append, length-replicate, get_or-append}
-use Rattle.std.proofs.lemmas.List.{nil_from_length}
+use Rattle.std.proofs.lemmas.List.{nil_from_length, map-append}
 use Rattle.std.proofs.Math.Seq.{sets, length-sets}
 use Rattle.std.proofs.lemmas.List.Edits.{sets-eq}
-use Rattle.port_tables.specs.Listing.{length_map}
-use Rattle.multiportgraph.specs.Ends.{map_append}
+use Rattle.port_tables.specs.Listing.{length_map, zero_is_not_one}
 use Rattle.multiportgraph.specs.ListScans.{Writing}
 use Rattle.multiportgraph.specs.ListSteps.{laid}
 use Rattle.portgraph.specs.Model.{total}
 use Rattle.portgraph.specs.Sums.{total_same}
+use Rattle.multiportgraph.specs.CountLaws.{total_first}
 use Rattle.port_tables.specs.ResizeLinkSteps.{sets_append}
 use Rattle.files.specs.Layout.{Record, field_bytes, word_bytes, field_at, word_at, record_bytes, unit_records, unit_head, sum_of, unit, units_for, units_from, units_of}
 use Rattle.files.specs.LayoutLaws.{head_length, unit_length}
@@ -81,67 +84,53 @@ module _ (numbers : List ℕ) (i : ℕ) {l₀ l : List ℕ} {at : ℕ} (w : Writ
 
 -- The sum.
 
-total_first : (n : ℕ) (f : ℕ → ℕ) → total (suc n) f ≡ f 0 + total n (λ i. f (suc i))
+-- words that are added one after the other
+abbrev pub added : ℕ → Bor (List ℕ) → ℕ
+added sum word = (sum + word_at word.now 0) % 4294967296
+
+words_added : (words : List ℕ) (d : Bor (List ℕ)) (l : List (Bor (List ℕ))) (i sum : ℕ) → sum < 4294967296 → ((k : ℕ) → k < length l → word_at (slice_index_or l k d).now 0 ≡ word_at words (4 * (i + k))) →
+    fold added sum l ≡ (sum + total (length l) (λ k. word_at words (4 * (i + k)))) % 4294967296
 unfolding total
-total_first zero f = omega arith
-total_first (suc n) f = let a = total_first n f in omega arith
+words_added words d [] i sum s h = omega arith
+words_added words d (x ∷ l) i sum s h =
+    let e : word_at x.now 0 ≡ word_at words (4 * (i + 0)) = h 0 (omega arith) in
+    let t = total_first (length l) (λ k. word_at words (4 * (i + k))) in
+    let same = total_same (length l) (λ k. word_at words (4 * (suc i + k))) (λ k. word_at words (4 * (i + suc k))) (λ k j. ap (λ (n : ℕ). word_at words (4 * n)) (omega arith)) in
+    let r = words_added words d l (suc i) (added sum x) (omega arith) (λ k j. h (suc k) (omega arith) ∙ ap (λ (n : ℕ). word_at words (4 * n)) (omega arith)) in
+    r ∙ omega arith
 
-word_later : (a b : List ℕ) (i : ℕ) → length a ≡ 4 → word_at (a ++ b) (4 * suc i) ≡ word_at b (4 * i)
-unfolding word_at field_at
-word_later a b i h =
-    let g : (k n : ℕ) → n ≡ length a + k → get_or (a ++ b) n 0 ≡ get_or b k 0 = λ k n e. ap (λ (m : ℕ). get_or (a ++ b) m 0) e ∙ get_or-append-add a b k 0 in
-    let x = g (4 * i) (4 * suc i) (omega arith) in
-    let y = g (4 * i + 1) (4 * suc i + 1) (omega arith) in
-    let z = g (4 * i + 2) (4 * suc i + 2) (omega arith) in
-    let w = g (4 * i + 2 + 1) (4 * suc i + 2 + 1) (omega arith) in
-    λ j. x j + 256 * y j + 65536 * (z j + 256 * w j)
+pub there : {A : Type 0} (P : A → Type 0) (o : Option A) (z : A) → IfSome o P → option_map (λ y. y) o ≡ Some z → P z
+there P None z h e = absurd (zero_is_not_one (cc))
+there P (Some y) z h e = let q : y ≡ z = cc in subst P q h
 
-word_first : (a b : List ℕ) → length a ≡ 4 → word_at (a ++ b) 0 ≡ word_at a 0
-unfolding word_at field_at
-word_first a b h =
-    let g : (k : ℕ) → k < 4 → get_or (a ++ b) k 0 ≡ get_or a k 0 = λ k l. get_or-append a b 0 k (omega arith) in
-    let x = g 0 (omega arith) in
-    let y = g (0 + 1) (omega arith) in
-    let z = g (0 + 2) (omega arith) in
-    let w = g (0 + 2 + 1) (omega arith) in
-    λ j. x j + 256 * y j + 65536 * (z j + 256 * w j)
+-- the chunks of 127 words, added one after the other, amount to their sum
+module _ {S : Type 0} {steps : S → Option (Bor (List ℕ)) → S → Type 0} (p : Run steps) (words : List ℕ) (n : length words ≡ 508) (w : p.whole ≡ true) (r : IsChunksExactRun p 4 words) where
+  chunk_read : (k : ℕ) (d : Bor (List ℕ)) → k < p.len → word_at (slice_index_or p.items k d).now 0 ≡ word_at words (4 * (0 + k))
+  unfolding word_at field_at
+  chunk_read k d h =
+      let x = slice_index_or p.items k d in
+      let t = there (λ (x : Bor (List ℕ)). (length x.now ≡ 4) × (k * 4 + 4 ≤ length words) × IsSubsliceAt 4 words (k * 4) x.now) (p.at k) x (r.2 k) (p.reads k d h) in
+      let g : (j i : ℕ) → j < 4 → i ≡ k * 4 + j → get_or x.now j 0 ≡ get_or words i 0 = λ j i h e. t.2.2 j 0 h ∙ ap (λ (m : ℕ). get_or words m 0) (sym e) in
+      let a = g 0 (4 * (0 + k)) (omega arith) (omega arith) in
+      let b = g (0 + 1) (4 * (0 + k) + 1) (omega arith) (omega arith) in
+      let c = g (0 + 2) (4 * (0 + k) + 2) (omega arith) (omega arith) in
+      let e = g (0 + 2 + 1) (4 * (0 + k) + 2 + 1) (omega arith) (omega arith) in
+      λ j. a j + 256 * b j + 65536 * (c j + 256 * e j)
 
-abbrev words_total : List ℕ → ℕ
-words_total l = total (length l / 4) (λ i. word_at l (4 * i))
+  pub words_folded : fold added 0 p.items ≡ sum_of words
+  unfolding sum_of
+  words_folded = go p.items refl
+    where
+      many : length p.items ≡ 127
+      many = let l = p.long in let k = r.1 w in omega arith
 
--- the words that are left, with the sum so far
-pub record Adding (words rest : List ℕ) (sum : ℕ) : Type 0 where
-  pub whole : length rest % 4 ≡ 0
-  pub same : sum + words_total rest ≡ words_total words
-  pub small : sum + length rest / 4 * 4294967295 ≤ 127 * 4294967295
-
-pub adding_begins : {words rest : List ℕ} → length words ≡ 508 → rest ≡ words → Adding words rest 0
-adding_begins h e = rw e (record { whole = omega arith; same = omega arith; small = omega arith })
-
-module _ {words rest : List ℕ} {sum : ℕ} (s : Adding words rest sum) where
-  pub adding_ends : length rest < 4 → length words ≡ 508 → sum % 4294967296 ≡ sum_of words
-  unfolding sum_of total
-  adding_ends h l =
-      let z : length rest / 4 ≡ 0 = omega arith in
-      let n : length words / 4 ≡ 127 = omega arith in
-      let a : words_total rest ≡ 0 = ap (λ (k : ℕ). total k (λ i. word_at rest (4 * i))) z in
-      let b : words_total words ≡ total 127 (λ i. word_at words (4 * i)) = ap (λ (k : ℕ). total k (λ i. word_at words (4 * i))) n in
-      let c = s.same in
-      let d : sum ≡ total 127 (λ i. word_at words (4 * i)) = omega arith in
-      ap (λ (k : ℕ). k % 4294967296) d
-
-  pub adding_on : (word next : List ℕ) → rest ≡ word ++ next → length word ≡ 4 → {x : ℕ} → x ≡ word_at word 0 → x < 4294967296 → Adding words next (sum + x)
-  adding_on word next e n {x} q b =
-      let l = ap length e ∙ length-append word next in
-      let w = s.whole in
-      let k : length rest / 4 ≡ suc (length next / 4) = omega arith in
-      let t : words_total rest ≡ word_at word 0 + words_total next =
-      (λ j. total (k j) (λ i. word_at (e j) (4 * i)))
-      ∙ (total_first (length next / 4) (λ i. word_at (word ++ next) (4 * i))
-      ∙ (λ j. word_first word next n j + total_same (length next / 4) (λ i. word_at (word ++ next) (4 * suc i)) (λ i. word_at next (4 * i)) (λ i h. word_later word next i n) j)) in
-      let a = s.same in
-      let c = s.small in
-      record { whole = omega arith; same = omega arith; small = omega arith }
+      go : (l : List (Bor (List ℕ))) → p.items ≡ l → fold added 0 p.items ≡ sum_of words
+      go [] e = let m = many in let z = ap length e in absurd (omega arith)
+      go (d ∷ l) e =
+          let same = total_same 127 (λ k. word_at words (4 * (0 + k))) (λ k. word_at words (4 * k)) (λ k h. ap (λ (m : ℕ). word_at words (4 * m)) (omega arith)) in
+          let sums : 0 + total 127 (λ k. word_at words (4 * (0 + k))) ≡ total 127 (λ k. word_at words (4 * k)) = omega (arith, same) in
+          words_added words d p.items 0 0 (omega arith) (λ k h. chunk_read k d (let l = p.long in omega arith))
+          ∙ (ap (λ (m : ℕ). (0 + total m (λ k. word_at words (4 * (0 + k)))) % 4294967296) many ∙ ap (λ (m : ℕ). m % 4294967296) sums)
 
 -- A unit.
 
@@ -212,7 +201,7 @@ module _ (kind : ℕ) where
       let b = length_map record_of part in
       let c = length_map record_of next in
       let l = ap length e ∙ length-append part next in
-      let m : map record_of rest ≡ map record_of part ++ map record_of next = ap (map record_of) e ∙ map_append record_of part next in
+      let m : map record_of rest ≡ map record_of part ++ map record_of next = ap (map record_of) e ∙ map-append record_of part next in
       let f = first_unit (map record_of rest) (map record_of part) (map record_of next) m (omega arith) in
       let k : (length (map record_of rest) + 62) / 63 ≡ suc ((length (map record_of next) + 62) / 63) = omega arith in
       ap (λ (x : ℕ). units_from kind x (map record_of rest)) k ∙ (λ j. unit kind (f.0 j) ++ units_from kind ((length (map record_of next) + 62) / 63) (f.1 j))

@@ -31,9 +31,9 @@ use Rattle.theorems.specs.Claims.{count}
 use Rattle.theorems.proofs.WireRule.{Rel, seen_live}
 use Rattle.theorems.proofs.PortListing.{blocks_list, rising_apart}
 use Rattle.files.specs.View.{BlockPorts, RankWire, View, rank_among, sorted, block_ports, rank_wire, view_of}
-use Rattle.files.specs.Layout.{block_record, wire_record, units_for, file_length}
+use Rattle.files.specs.Layout.{block_record, wire_record, units_for, file_length, FieldsFit, ViewFits}
 use Rattle.files.specs.Saving.{file_of}
-use Rattle.files.specs.LayoutLaws.{FieldsFit, ViewFits, file_length_lem}
+use Rattle.files.specs.LayoutLaws.{file_length_lem}
 use Rattle.files.specs.Claims.{rank_in, At, HasBlock, same_wire, how_many, wires_between, WithinLimits, longest_file}
 use Rattle.files.specs.OrderLaws.{sorted_counts, sorted_member, sorted_length}
 use Rattle.files.specs.RankLaws.{at_member, at_map, map_at, rank_below, rank_at, at_rank, blocks_rise, booked_block, rank_booked}

@@ -10,13 +10,12 @@ use Rattle.std.proofs.Math.ListN.{drop_of_length-le}
 use borrow.Author.Tests.{ltb-true, ltb-false, lt-ltb, le-ltb, le-leb, lt-leb}
 use Rattle.port_tables.specs.Listing.{map_member}
 use Rattle.files.specs.View.{BlockPorts, RankWire, View}
-use Rattle.files.specs.Layout.{Record, field_at, units_for, block_of, wire_of, wire_record, record_at, unbytes}
-use Rattle.files.specs.LayoutLaws.{FieldsFit}
+use Rattle.files.specs.Layout.{Record, field_at, units_for, block_of, wire_of, wire_record, record_at, unbytes, FieldsFit}
 use Rattle.files.specs.Loading.{unit_list, order_right, ranks_right, block_at, positions_right, units_right, view_right}
 use Rattle.files.specs.LaidLaws.{block_placed, wire_placed, all_units}
 use Rattle.files.specs.SoundLaws.{said_fits}
-use Rattle.files.specs.Forms.{number_of}
-use Rattle.files.specs.SortSteps.{wire_number, number_order, WiresSmall}
+use Rattle.files.specs.Forms.{number_of, wire_number}
+use Rattle.files.specs.SortSteps.{number_order, WiresSmall}
 use Rattle.files.specs.LoadForms.{place_of, record_in, no_wire, BlocksRead, WiresRead, wire_fits, wires_fit}
 use Rattle.files.specs.CheckSteps.{and_three}
 

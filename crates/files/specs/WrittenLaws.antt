@@ -121,7 +121,7 @@ unit_records_lem bytes h =
 
 -- Sums.
 
-word_taken : (n i : ℕ) (bytes : List ℕ) → i + 4 ≤ n → word_at (take n bytes) i ≡ word_at bytes i
+pub word_taken : (n i : ℕ) (bytes : List ℕ) → i + 4 ≤ n → word_at (take n bytes) i ≡ word_at bytes i
 unfolding word_at
 word_taken n i bytes h =
     let p = field_taken n i bytes (omega arith) in

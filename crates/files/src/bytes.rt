@@ -41,6 +41,7 @@ pub(crate) fn put_word(bytes: &mut [u8], i: usize, word: u32)
 // Lays a record's eight bytes from a byte position on; the record is one number, its first field the most significant.
 // A record stays one number until it is laid: the order of these numbers is that of the records, so that the library's sort serves with no order of our own,
 // and with no law that such an order is this one.
+// Stay quotients: `to_be_bytes` gives the fields in this order, but the bytes of each the other way around.
 pub(crate) fn put_record(bytes: &mut [u8], i: usize, number: u64)
     requires { i + 8 ≤ length bytes.old }
     ensures { bytes.new ≡ sets bytes.old i (record_bytes (record_of number)) }
@@ -75,6 +76,7 @@ pub(crate) fn record_at(bytes: &[u8], at: usize) -> Fields
 
 impl Fields {
     // A record as one number, its first field the most significant.
+    // Stays a method: a `From` would say this clause in a law beside its function.
     pub(crate) fn number(self) -> u64
         ensures { result ≡ number_of (said self) }
     {

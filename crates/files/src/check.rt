@@ -9,6 +9,7 @@ use crate::bytes::{field_at, word_at};
 use crate::units::{UNIT_RECORDS, sum_words};
 
 // The sum of a unit is that of the words before it.
+// That a unit has 512 bytes stays a clause, here and below: what `chunks_exact` lends is a slice, and making it an array is a step that can fail.
 fn sum_holds(unit: &[u8]) -> bool
     requires { length unit.now ≡ 512 }
     ensures { result ≡ sum_holds unit.now }
@@ -16,20 +17,11 @@ fn sum_holds(unit: &[u8]) -> bool
     word_at(unit, 508) == sum_words(&unit[..508])
 }
 
-// The length is that of whole units, and all sums are right. Stays a loop, as the zeros below: `all` over chunks tells of the runs of its closure, out of which the lists that the
-// definitions speak of would have to be made anew.
+// The length is that of whole units, and all sums are right.
 pub(crate) fn is_whole(file: &[u8]) -> bool
     ensures { result ≡ is_whole file.now }
 {
-    if file.len() % 512 != 0 {
-        return false;
-    }
-    for unit in file.chunks_exact(512) {
-        if !sum_holds(unit) {
-            return false;
-        }
-    }
-    true
+    file.len() % 512 == 0 && file.chunks_exact(512).all(|unit| sum_holds(unit))
 }
 
 // A kind, and that of the next unit, 0 for none: blocks, then wires.
@@ -60,12 +52,9 @@ fn block_zeros(records: &[u8]) -> bool
     requires { length records.now % 8 ≡ 0 }
     ensures { result ≡ list_all block_zeros (records_at (length records.now / 8) records.now) }
 {
-    for record in records.chunks_exact(8) {
-        if word_at(record, 4) != 0 {
-            return false;
-        }
-    }
-    true
+    records
+        .chunks_exact(8)
+        .all(|record| word_at(record, 4) == 0)
 }
 
 // What a unit says by itself, before one of a kind, 0 for none: kind, count and zeros.
@@ -119,8 +108,5 @@ pub(crate) fn shape_of(file: &[u8]) -> Option<Shape>
             wires += count;
         }
     }
-    Some(Shape {
-        blocks: blocks,
-        wires: wires,
-    })
+    Some(Shape { blocks, wires })
 }

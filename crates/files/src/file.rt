@@ -23,10 +23,7 @@ impl<'a> File<'a> {
         requires { Laid bytes.now shape.blocks shape.wires }
         ensures { result.bytes.now ≡ bytes.now }
     {
-        File {
-            bytes: bytes,
-            shape: shape,
-        }
+        File { bytes, shape }
     }
 
     // The record of a block.

@@ -25,7 +25,7 @@ fn put_pair(numbers: &mut [u32], at: usize, a: u32, b: u32)
     numbers[at..at + 2].copy_from_slice(&[a, b]);
 }
 
-// Lists the adds.
+// Lists the adds. Laid by place, as the links are below: of chunks that are lent to be written, a proof keeps the length alone.
 fn list_adds(numbers: &mut [u32], file: File)
     requires { 2 * file.shape.blocks ≤ length numbers.old }
     ensures { numbers.new ≡ sets numbers.old 0 (flat_map add_pair (unbytes file.entry.bytes.now).blocks) }
@@ -59,7 +59,7 @@ fn list_laid(numbers: &mut [u32], file: File)
     fill_firsts(&mut firsts, file);
     list_adds(numbers, file);
     let ports = Ports {
-        file: file,
+        file,
         firsts: &firsts,
     };
     list_links(numbers, 2 * file.shape.blocks, ports);

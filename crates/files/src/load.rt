@@ -2,7 +2,6 @@
 ghost use Rattle.std.specs.Prelude.{◌≡◌, MatchResult, Err};
 ghost use Rattle.multiportgraph.specs.Graph.{empty_graph};
 ghost use Rattle.multiportgraph.specs.WellFormed.{MultiWf};
-ghost use Rattle.multiportgraph.specs.MultiLent.{graph_of};
 ghost use Rattle.files.specs.Layout.{unbytes};
 ghost use Rattle.files.specs.Loading.{build_of, first_refusal, load_answer, load_graph};
 ghost use Rattle.files.specs.Merging.{layout_answer};
@@ -15,7 +14,6 @@ use crate::file::File;
 use crate::ports::{Ports, fill_firsts};
 use crate::wires::wires_right;
 use multi_tables::answers::Refusal;
-use multiportgraph::lent_graph::LentGraph;
 use multiportgraph::multiportgraph::MultiPortGraph;
 use port_tables::index::NODE_SLOTS;
 use port_tables::release::Release;
@@ -72,25 +70,27 @@ pub(crate) fn laid(bytes: &[u8]) -> Result<File, LoadError>
 }
 
 // Builds the wiring of a laid file for a release in a graph of its own, as far as the first add or link that is refused.
-fn build_over(graph: &mut LentGraph, release: Release, file: File) -> Result<(), LoadError>
-    requires { graph_of graph.old ≡ empty_graph release }
-    ensures { MatchResult result (λ _. Built (empty_graph release) (build_of (unbytes file.entry.bytes.now)) (graph_of graph.new)) (λ e. first_refusal (empty_graph release) (build_of (unbytes file.entry.bytes.now)) ≡ Err e) }
+// The table of first ports is filled here and in `list_laid`: a function that filled it and gave `Ports` would lend from what it was lent to change.
+fn build_over(graph: &mut MultiPortGraph, release: Release, file: File) -> Result<(), LoadError>
+    requires { graph.old ≡ empty_graph release }
+    ensures { MatchResult result (λ _. Built (empty_graph release) (build_of (unbytes file.entry.bytes.now)) graph.new) (λ e. first_refusal (empty_graph release) (build_of (unbytes file.entry.bytes.now)) ≡ Err e) }
 {
     add_blocks(graph, file)?;
     let mut firsts = [0u32; NODE_SLOTS];
     fill_firsts(&mut firsts, file);
     let ports = Ports {
-        file: file,
+        file,
         firsts: &firsts,
     };
-    link_wires(graph, ports)
+    link_wires(graph, ports)?;
+    Ok(())
 }
 
 // What loading a laid file for a release answers. Stays beside `build`: the answer alone needs no graph by value.
 pub(crate) fn build_answer(release: Release, file: File) -> Result<(), LoadError>
     ensures { result ≡ load_answer release file.entry.bytes.now }
 {
-    let mut graph = LentGraph::new(release);
+    let mut graph = MultiPortGraph::new(release);
     build_over(&mut graph, release, file)
 }
 
@@ -98,10 +98,10 @@ pub(crate) fn build_answer(release: Release, file: File) -> Result<(), LoadError
 fn build(release: Release, file: File) -> FileLoaded
     ensures { (result ≡ record { graph = load_graph release file.entry.bytes.now; answer = load_answer release file.entry.bytes.now }) × MultiWf result.graph }
 {
-    let mut graph = LentGraph::new(release);
+    let mut graph = MultiPortGraph::new(release);
     match build_over(&mut graph, release, file) {
         Ok(_) => FileLoaded {
-            graph: graph.graph(),
+            graph,
             answer: Ok(()),
         },
         Err(error) => refused(release, error),

@@ -46,15 +46,16 @@ impl From<LoadError> for MergeError {
 fn block_number(block: Fields) -> u64
     ensures { result ≡ number_of (block_record (block_of (said block))) }
 {
-    let alone = Fields {
+    Fields {
         c: 0,
         d: 0,
         ..block
-    };
-    alone.number()
+    }
+    .number()
 }
 
 // The records of the blocks of a file, as numbers, in a list with a place for each.
+// Stays beside `read_wires`: one for both would take what reads a record as a closure, with its contract.
 fn read_blocks(file: File, numbers: &mut [u64])
     requires { length numbers.old ≡ file.shape.blocks }
     ensures { numbers.new ≡ map (block_read file.entry.bytes.now) (range 0 file.entry.shape.blocks) }
@@ -69,12 +70,12 @@ fn raised_number(wire: Fields, raise: u16) -> u64
     requires { RaisedAt (said wire) raise }
     ensures { result ≡ number_of (wire_record (raised raise (wire_of (said wire)))) }
 {
-    let moved = Fields {
+    Fields {
         a: raise + wire.a,
         c: raise + wire.c,
         ..wire
-    };
-    moved.number()
+    }
+    .number()
 }
 
 // The records of the wires of a file, their ranks raised, as numbers, in a list with a place for each.
@@ -183,10 +184,7 @@ fn merge_laid<'a>(first: File<'a>, second: File<'a>, buffer: &mut [u8]) -> Resul
 {
     build_answer(Release::One, first)?;
     build_answer(Release::One, second)?;
-    let both = Both {
-        first: first,
-        second: second,
-    };
+    let both = Both { first, second };
     both.answer()?;
     both.write(buffer)
 }
@@ -198,7 +196,5 @@ pub fn merge<'a>(first: &'a [u8], second: &'a [u8], buffer: &mut [u8]) -> Result
     ensures { (result ≡ merge_answer first.now second.now buffer.old)
         × (buffer.new ≡ merge_buffer first.now second.now buffer.old) }
 {
-    let one = laid(first)?;
-    let two = laid(second)?;
-    merge_laid(one, two, buffer)
+    merge_laid(laid(first)?, laid(second)?, buffer)
 }

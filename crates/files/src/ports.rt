@@ -19,7 +19,7 @@ pub(crate) struct Ports<'a> {
     ghost few: { file.shape.blocks ≤ node_slots },
 }
 
-// Enters the first port of each block in a table, whatever it holds.
+// Enters the first port of each block in a table, whatever it holds. Stays a range: the table has a place for each node slot, and blocks are fewer.
 pub(crate) fn fill_firsts(firsts: &mut [u32; NODE_SLOTS], file: File)
     requires { file.shape.blocks ≤ node_slots }
     ensures { Firsts firsts.new file.entry.bytes.now file.entry.shape.blocks }

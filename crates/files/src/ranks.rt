@@ -1,20 +1,20 @@
 // Records of blocks and wires as numbers, read off the listings of a graph; wires by the ranks of their blocks.
 ghost use Rattle.std.specs.Prelude.{◌≡◌, ◌≤◌, ◌<◌, length, get_or};
-ghost use Rattle.files.specs.Layout.{wire_record};
-ghost use Rattle.files.specs.LayoutLaws.{FieldsFit};
+ghost use Rattle.files.specs.Layout.{wire_record, FieldsFit};
 ghost use Rattle.files.specs.Forms.{number_of, turns, blocks_in, BlocksFit, rank_turn, block_turn, wires_in, wire_listed, rank_read, WiresFit, wire_turn};
 
 use crate::bytes::Fields;
 use port_tables::tables::store;
 
-// A number of a table; 0 outside.
-fn at(table: &[u32], i: usize) -> u32
+// An entry of a table; 0 outside. Stays a number: the definitions read 0 there, so each caller would turn an Option into it. Stays beside `at` of the tables' crate,
+// which is of a table with an entry for each port slot: these lists are of other lengths.
+pub fn at(table: &[u32], i: usize) -> u32
     ensures { result ≡ get_or table.now i 0 }
 {
     table.get(i).copied().unwrap_or(0)
 }
 
-// Enters the rank of each block of a listing.
+// Enters the rank of each block of a listing. Here and below entries are stored by place: the definitions tell turn after turn what is stored where, also outside.
 pub(crate) fn fill_ranks(listed: &[u32], ranks: &mut [u32])
     requires { length listed.now ≤ 4294967295 }
     ensures { ranks.new ≡ turns (rank_turn listed.now) 0 (blocks_in listed.now) ranks.old }
@@ -25,18 +25,19 @@ pub(crate) fn fill_ranks(listed: &[u32], ranks: &mut [u32])
 }
 
 // The records of the blocks of a listing, as numbers.
+// Stays beside that of wires: one for both would take what makes a number of an item as a closure, with its contract.
 pub(crate) fn block_numbers(listed: &[u32], numbers: &mut [u64])
     requires { (blocks_in listed.now ≤ length numbers.old) × BlocksFit listed.now }
     ensures { numbers.new ≡ turns (block_turn listed.now) 0 (blocks_in listed.now) numbers.old }
 {
     for (i, block) in listed.chunks_exact(4).enumerate() {
-        let record = Fields {
+        numbers[i] = Fields {
             a: block[1] as u16,
             b: block[2] as u16,
             c: 0,
             d: 0,
-        };
-        numbers[i] = record.number();
+        }
+        .number();
     }
 }
 
@@ -45,13 +46,13 @@ fn wire_number<'a>(wire: &'a [u32], ranks: &'a [u32]) -> u64
     requires { (8 ≤ length wire.now) × FieldsFit (wire_record (wire_listed (rank_read ranks.now) wire.now 0)) }
     ensures { result ≡ number_of (wire_record (wire_listed (rank_read ranks.now) wire.now 0)) }
 {
-    let record = Fields {
+    Fields {
         a: at(ranks, wire[2] as usize) as u16,
         b: wire[3] as u16,
         c: at(ranks, wire[6] as usize) as u16,
         d: wire[7] as u16,
-    };
-    record.number()
+    }
+    .number()
 }
 
 // The records of the wires of a listing, as numbers.

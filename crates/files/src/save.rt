@@ -4,7 +4,6 @@ ghost use Rattle.std.proofs.lemmas.List.Edits.{sets};
 ghost use Rattle.port_tables.specs.Limits.{node_slots, port_slots};
 ghost use Rattle.multiportgraph.specs.Calls.{visible_nodes, visible_links};
 ghost use Rattle.multiportgraph.specs.WellFormed.{MultiWf};
-ghost use Rattle.multiportgraph.specs.MultiLent.{graph_of};
 ghost use Rattle.files.specs.View.{rank_among, sorted};
 ghost use Rattle.files.specs.Layout.{block_record, wire_record, units_for, units_of, file_length};
 ghost use Rattle.files.specs.Saving.{save_answer, save_buffer};
@@ -12,10 +11,8 @@ ghost use Rattle.files.specs.Forms.{record_of, sorted_numbers, blocks_in, nodes_
 
 use crate::ranks::{block_numbers, fill_ranks, wire_numbers};
 use crate::units::{UNIT_RECORDS, put_units, units_for};
-use multiportgraph::lent_graph::LentGraph;
 use multiportgraph::multiportgraph::MultiPortGraph;
 use port_tables::index::{MOST_WIRES, NODE_SLOTS};
-use port_tables::release::Release;
 
 // So many blocks and wires a small wiring has, and a middling one: shorter working lists are cleared faster.
 const FEW: usize = UNIT_RECORDS;
@@ -57,8 +54,7 @@ fn put_blocks(listed: &[u32], numbers: &mut [u64], buffer: &mut [u8]) -> usize
         × (buffer.new ≡ sets buffer.old 0 (units_of 1 (map block_record (blocks_of listed.now)))) }
 {
     block_numbers(listed, numbers);
-    let count = listed.len() / 4;
-    put_units(buffer, 0, 1, &numbers[..count])
+    put_units(buffer, 0, 1, &numbers[..listed.len() / 4])
 }
 
 // Lays the units of wires from a place on, whose records as numbers come in any order.
@@ -84,23 +80,23 @@ fn put_wires<'a>(
     let mut ranks = [0u32; NODE_SLOTS];
     fill_ranks(listed, &mut ranks);
     wire_numbers(ends, &ranks, numbers);
-    let count = ends.len() / 8;
-    put_sorted(&mut numbers[..count], buffer, at);
+    put_sorted(&mut numbers[..ends.len() / 8], buffer, at);
 }
 
-// Lays the file of a lent graph from the buffer's start on, by lists of these lengths: what the listings of blocks and of wires take, and as many numbers of records.
+// Lays the file of a graph from the buffer's start on, by lists of these lengths: what the listings of blocks and of wires take, and as many numbers of records.
+// Three lengths, and the constants above: a const argument cannot be computed.
 fn write_by<const LISTED: usize, const ENDS: usize, const NUMBERS: usize>(
-    graph: &LentGraph,
+    graph: &MultiPortGraph,
     buffer: &mut [u8],
 )
-    requires { MultiWf (graph_of graph.now)
-        × (4 * visible_nodes (graph_of graph.now) ≤ LISTED)
-        × (8 * visible_links (graph_of graph.now) ≤ ENDS)
-        × (visible_nodes (graph_of graph.now) ≤ NUMBERS)
-        × (visible_links (graph_of graph.now) ≤ NUMBERS)
-        × (file_length (visible_nodes (graph_of graph.now)) (visible_links (graph_of graph.now)) ≤ length buffer.old)
+    requires { MultiWf graph.now
+        × (4 * visible_nodes graph.now ≤ LISTED)
+        × (8 * visible_links graph.now ≤ ENDS)
+        × (visible_nodes graph.now ≤ NUMBERS)
+        × (visible_links graph.now ≤ NUMBERS)
+        × (file_length (visible_nodes graph.now) (visible_links graph.now) ≤ length buffer.old)
         × (LISTED ≤ 65536) × (ENDS ≤ 65536) × (NUMBERS ≤ 65536) }
-    ensures { buffer.new ≡ save_buffer (graph_of graph.now) buffer.old }
+    ensures { buffer.new ≡ save_buffer graph.now buffer.old }
 {
     let mut listed = [0u32; LISTED];
     let mut ends = [0u32; ENDS];
@@ -120,11 +116,11 @@ fn write_by<const LISTED: usize, const ENDS: usize, const NUMBERS: usize>(
     );
 }
 
-// Writes a lent graph to a lent buffer and answers the file's length; bytes past it keep their contents, and so does a buffer that is too short.
-pub fn save_lent(graph: &LentGraph, buffer: &mut [u8]) -> Result<usize, BufferShort>
-    requires { MultiWf (graph_of graph.now) }
-    ensures { (result ≡ save_answer (graph_of graph.now) buffer.old)
-        × (buffer.new ≡ save_buffer (graph_of graph.now) buffer.old) }
+// Writes a graph to a lent buffer and answers the file's length; bytes past it keep their contents, and so does a buffer that is too short.
+pub fn save(graph: &MultiPortGraph, buffer: &mut [u8]) -> Result<usize, BufferShort>
+    requires { MultiWf graph.now }
+    ensures { (result ≡ save_answer graph.now buffer.old)
+        × (buffer.new ≡ save_buffer graph.now buffer.old) }
 {
     let blocks = graph.node_count();
     let wires = graph.link_count();
@@ -135,22 +131,10 @@ pub fn save_lent(graph: &LentGraph, buffer: &mut [u8]) -> Result<usize, BufferSh
     let most = blocks.max(wires);
     if most <= FEW {
         write_by::<FEW_LISTED, FEW_ENDS, FEW>(graph, buffer);
-        return Ok(size);
-    }
-    if most <= SOME {
+    } else if most <= SOME {
         write_by::<SOME_LISTED, SOME_ENDS, SOME>(graph, buffer);
-        return Ok(size);
+    } else {
+        write_by::<ALL_LISTED, ALL_ENDS, MOST_WIRES>(graph, buffer);
     }
-    write_by::<ALL_LISTED, ALL_ENDS, MOST_WIRES>(graph, buffer);
     Ok(size)
-}
-
-// The same of a graph by value.
-pub fn save(graph: MultiPortGraph, buffer: &mut [u8]) -> Result<usize, BufferShort>
-    requires { MultiWf graph }
-    ensures { (result ≡ save_answer graph buffer.old) × (buffer.new ≡ save_buffer graph buffer.old) }
-{
-    let mut held = LentGraph::new(Release::One);
-    held.put(graph);
-    save_lent(&held, buffer)
 }

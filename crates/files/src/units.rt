@@ -17,7 +17,7 @@ pub(crate) fn units_for(records: usize) -> usize
     records.div_ceil(UNIT_RECORDS)
 }
 
-// Lays the records of a unit from a byte position on; unused ones are zero.
+// Lays the records of a unit from a byte position on; unused ones are zero. Laid by place, as units are below: of chunks that are lent to be written, a proof keeps the length alone.
 fn put_records(bytes: &mut [u8], at: usize, records: &[u64])
     requires { (at + 504 ≤ length bytes.old) × (length records.now ≤ unit_records) }
     ensures { bytes.new ≡ sets bytes.old at (flat_map record_bytes (map record_of records.now) ++ replicate (8 * (unit_records - length records.now)) 0) }
@@ -29,19 +29,18 @@ fn put_records(bytes: &mut [u8], at: usize, records: &[u64])
     bytes[end..at + 504].fill(0);
 }
 
-// The sum, modulo 4,294,967,296, of the 127 words before the sum of a unit. Stays a loop, as those of `check`: `fold` over chunks tells of the runs of its closure.
+// The sum, modulo 4,294,967,296, of the 127 words before the sum of a unit.
 pub(crate) fn sum_words(words: &[u8]) -> u32
     requires { length words.now ≡ 508 }
     ensures { result ≡ sum_of words.now }
 {
-    let mut sum: u64 = 0;
-    for word in words.chunks_exact(4) {
-        sum += word_at(word, 0) as u64;
-    }
-    (sum % 4294967296) as u32
+    words
+        .chunks_exact(4)
+        .fold(0u32, |sum, word| sum.wrapping_add(word_at(word, 0)))
 }
 
-// Lays a unit of these records. The kind stays a number: it is a field of the file.
+// Lays a unit of these records. The kind stays a number: the definitions say `units_of 1` and `units_of 2`, and an enum would be turned into that number by the only function
+// that reads it, this one.
 fn put_unit(bytes: &mut [u8], at: usize, kind: u16, records: &[u64])
     requires { (at + 512 ≤ length bytes.old) × (length records.now ≤ unit_records) }
     ensures { bytes.new ≡ sets bytes.old at (unit kind (map record_of records.now)) }
@@ -49,9 +48,8 @@ fn put_unit(bytes: &mut [u8], at: usize, kind: u16, records: &[u64])
     put_field(bytes, at, kind);
     put_field(bytes, at + 2, records.len() as u16);
     put_records(bytes, at + 4, records);
-    let end = at + 508;
-    let sum = sum_words(&bytes[at..end]);
-    put_word(bytes, end, sum);
+    let sum = sum_words(&bytes[at..at + 508]);
+    put_word(bytes, at + 508, sum);
 }
 
 // Lays all units of a kind; answers the place after the last.

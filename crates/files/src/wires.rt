@@ -33,6 +33,7 @@ fn wire_fits(file: &[u8], blocks: usize, wire: Fields) -> bool
 }
 
 // No wire precedes the one before it, and each goes between ports of blocks of the file.
+// Stays over bytes and shape, as the test above: they are a `File` only where this holds.
 pub(crate) fn wires_right(file: &[u8], shape: Shape) -> bool
     requires { BlocksRead file.now shape.blocks × WiresRead file.now (units_for shape.blocks) shape.wires }
     ensures { result ≡ view_right (unbytes file.now) }

@@ -11,10 +11,10 @@ use Rattle.multi_tables.specs.declared.answers.Refusal.TheVariants.{NoRoom}
 use Rattle.theorems.specs.Book.{empty_book}
 use Rattle.theorems.specs.History.{State, run_under}
 use Rattle.files.specs.View.{BlockPorts, View}
-use Rattle.files.specs.Layout.{Record, block_record, bytes_of, unbytes}
+use Rattle.files.specs.Layout.{Record, block_record, bytes_of, unbytes, FieldsFit, ViewFits}
 use Rattle.files.specs.Loading.{first_port, add_of, build_of, first_refusal, graph_if, load_answer, load_answer_under, load_graph, load_graph_under}
 use Rattle.files.specs.Claims.{Sound}
-use Rattle.files.specs.LayoutLaws.{FieldsFit, ViewFits, view_read_back}
+use Rattle.files.specs.LayoutLaws.{view_read_back}
 use Rattle.files.specs.LaidAgain.{written_laid}
 use Rattle.files.specs.NextSlots.{adds_laid, none_free_at_first}
 use Rattle.files.specs.BuildRefusals.{BlocksFit, fitting_added}

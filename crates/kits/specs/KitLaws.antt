@@ -4,6 +4,7 @@ use Rattle.std.proofs.Common.{sym, ◌∙◌, subst, inr, arith}
 use Rattle.std.specs.Prelude.{Bool, true, false, cond, ◌⊎◌, ◌↔◌, ℕ, ◌≤◌, Result, Ok, Err, Some, None}
 use mathlib.Core.List.{List, [], ◌∷◌, ◌++◌, map}
 use Rattle.std.proofs.Math.Logic.{inl}
+use Rattle.std.proofs.lemmas.Bool.{false_from_ne_true}
 use Rattle.port_tables.specs.Limits.{Limits, present}
 use Rattle.port_tables.specs.Entries.{port_entry}
 use Rattle.port_tables.specs.Lists.{Member}
@@ -215,14 +216,10 @@ module _ {L : Limits} {m : MultiPortGraph} {M : Model} (f : Fine m M) (w : Withi
       record {
         nodes = λ n h. ap is_some (gone_has_no_meta f.good f.holds n (gone_beyond n h));
         ports = λ p h. ap is_port (port_beyond p h);
-        hidden = λ n h. false_unless (is_hidden m n) (λ e. let c = f.copy n e in let g = gone_beyond n h in let k = c.here in zero_is_not_one (cc));
-        split = λ p h. false_unless (is_split m p) (λ e. unmarked p h (f.only_marked p e));
+        hidden = λ n h. false_from_ne_true (is_hidden m n) (λ e. let c = f.copy n e in let g = gone_beyond n h in let k = c.here in zero_is_not_one (cc));
+        split = λ p h. false_from_ne_true (is_split m p) (λ e. unmarked p h (f.only_marked p e));
       }
     where
-      false_unless : (b : Bool) → (b ≡ true → ⊥) → b ≡ false
-      false_unless true h = absurd (h refl)
-      false_unless false h = refl
-
       unmarked : (p : ℕ) → L.ports ≤ p → Marked m M p → ⊥
       unmarked p h (copy_port c i e) =
           no_port_beyond (copy_place m c) (f.good.join_valid (copy_place m c) (f.copy c i).main (f.copy c i).joined) (subst (λ (q : ℕ). L.ports ≤ q) (sym e) h)

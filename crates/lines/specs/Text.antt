@@ -68,6 +68,10 @@ value_or_none r = unwrap_or r no_value
 unfoldable pub is_digit : ℕ → Bool
 is_digit b = leb 48 b && leb b 57
 
+-- A number with one digit more, or none.
+unfoldable pub with_digit : ℕ → ℕ → ℕ
+with_digit v b = cond (ltb v no_value && (is_digit b && ltb (v * 10 + (b - 48)) no_value)) (v * 10 + (b - 48)) no_value
+
 unfoldable pub all_digits : List ℕ → Bool
 all_digits [] = true
 all_digits (b ∷ l) = is_digit b && all_digits l

@@ -8,7 +8,7 @@ use native.Mathlib.Omega.{arith}
 use Rattle.std.proofs.Math.Dec.{eqb, leb}
 use Rattle.std.proofs.Math.ListN.{length}
 use borrow.Author.Tests.{eqb-false, eq-eqb, ne_eqb, lt-ltb, le-ltb, le-leb, lt-leb, ltb-true, ltb-false}
-use Rattle.lines.specs.Text.{is_blank, bytes_from, part_of, without_return, line_of, leading, pass_over, same_bytes, is_digit, all_digits, decimal_after, number_said, number_or_zero, no_value, value_or_none}
+use Rattle.lines.specs.Text.{is_blank, bytes_from, part_of, without_return, line_of, leading, pass_over, same_bytes, is_digit, with_digit, all_digits, decimal_after, number_said, number_or_zero, no_value, value_or_none}
 use Rattle.std.specs.Prelude.{zero, Option, None, Some, unwrap_or}
 use Rattle.std.specs.Option.{SomeIff}
 use Rattle.std.specs.List.{position, position_or_len}
@@ -202,8 +202,6 @@ no_digits true x y = refl
 no_digits false x y = refl
 
 -- One digit more.
-unfoldable pub with_digit : ℕ → ℕ → ℕ
-with_digit v b = cond (ltb v no_value && (is_digit b && ltb (v * 10 + (b - 48)) no_value)) (v * 10 + (b - 48)) no_value
 
 module _ (v b : ℕ) where
   pub digit_none : no_value ≤ v → no_value ≡ with_digit v b

@@ -1,6 +1,13 @@
 // What the words after the program's name ask for.
-use crate::text::{Span, is_word};
 use std::env::{Env, FillError};
+
+// How a program is started, after its name.
+pub const USAGE: &'static [u8] = b"\
+ [--echo]
+Commands come on standard input, one a line, and each is answered at once; `help` lists them.
+  --echo  prints each line before its answer
+  --help  prints these lines
+";
 
 #[derive(Clone, Copy, PartialEq, Eq)]
 pub enum Asked {
@@ -13,7 +20,7 @@ pub enum Asked {
 fn asked_by(rt: &impl Env, number: usize) -> Option<Asked> {
     let mut buffer = [0u8; 16];
     match rt.arg(number, &mut buffer) {
-        Ok(len) if is_word(&buffer, Span { from: 0, to: len }, b"--echo") => Some(Asked::Echo),
+        Ok(len) if buffer[..len] == b"--echo"[..] => Some(Asked::Echo),
         Ok(_) | Err(FillError::TooLong) => Some(Asked::Usage),
         Err(FillError::NotPresent) => None,
     }

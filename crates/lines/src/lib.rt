@@ -17,8 +17,9 @@ mod wrong;
 // What a number of a line names.
 pub mod named;
 
-// A line of output.
+// A line of output, and the items of a walk.
 pub mod show;
+pub mod walks;
 
 // The words after a program's name.
 pub mod arguments;

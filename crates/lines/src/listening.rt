@@ -17,6 +17,7 @@ pub struct Listener {
     pub line: u64,
     too_long: bool,
     // Whether no line is read any more.
+    // Stays a flag beside what `listen` gives: the last line is heard, and ends the input.
     pub ended: bool,
 }
 
@@ -43,7 +44,7 @@ impl Listener {
     pub fn new(echo: bool) -> Self {
         Listener {
             reader: Reader::new(),
-            echo: echo,
+            echo,
             line: 0,
             too_long: false,
             ended: false,
@@ -74,7 +75,7 @@ impl Listener {
             show_line(rt, text);
         }
         Some(Heard {
-            text: text,
+            text,
             number: self.line,
         })
     }

@@ -7,6 +7,7 @@ use port_tables::release::Release;
 use port_tables::sides::Sides;
 
 // 1 for the first release, else the second: a row's name lets no other number through than 1 and 2.
+// Stay functions, this and the next: a `From` could only stand in the crate of the type.
 pub fn release_of(number: u32) -> Release
     ensures { result ≡ release_of number }
 {

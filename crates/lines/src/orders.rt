@@ -36,10 +36,10 @@ impl<C: Copy> Order<C> {
         ensures { result ≡ start_of command from }
     {
         Order {
-            command: command,
+            command,
             numbers: [0u32; NUMBERS],
             entries: 0,
-            from: from,
+            from,
         }
     }
 
@@ -55,6 +55,7 @@ impl<C: Copy> Order<C> {
     }
 
     // The number at a place, from 0; 0 where there is none.
+    // Stays a number: the definitions read 0 there.
     #[tactic(auto, using(crate::specs::OrderSteps::number_read))]
     pub fn number(self, place: usize) -> u32
         ensures { result ≡ number_at self place }
@@ -72,6 +73,7 @@ impl<C: Copy> Order<C> {
 }
 
 // What a word is if it does not suit the name that stands for it; it tells the kind of the name.
+// Stays tests in a row: of a table the clause would have to say which row a search found, and that no other has that name.
 // Stays `Wrong`: an enum of kinds would have the same variants, and a `From` beside them.
 #[tactic(auto, unfolding(crate::specs::Text::next_word, crate::specs::Text::pass_over, crate::specs::Text::leading, crate::specs::Text::is_blank, crate::specs::Text::bytes_from))]
 fn unsuited(usage: &[u8], name: Span) -> Wrong
@@ -130,7 +132,8 @@ fn value_as(text: &[u8], word: Span, usage: &[u8], name: Span) -> Result<u32, Wr
         .ok_or(wrong)
 }
 
-// An order with the numbers after a line's first word, one for each name after the row's first word.
+// An order with the numbers after a line's first word, one for each name after the row's first word. The row and the text stay parameters, here and in `with_list`: a struct
+// of them would be made once, in `order_by`, and taken apart at once.
 #[tactic(auto, using(crate::specs::OrderSteps::reading_end))]
 fn with_numbers<C: Copy>(
     command: C,

@@ -6,6 +6,7 @@ const WIDTH: usize = 160;
 
 // A line; bytes past its width are left out, and no line of the console comes near it.
 // Stays bytes with their number beside them: no library has a heap.
+// Stays a line of our own beside `println!`: there each part, as an end or a place, would be a type with a `Display`, and how a command is typed is bytes, which are no text.
 #[derive(Clone, Copy)]
 pub struct Line {
     pub bytes: [u8; WIDTH],

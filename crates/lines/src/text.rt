@@ -1,8 +1,7 @@
 // Lines, words and numbers in a text. Blanks, tabs and newlines stand between words.
 ghost use Rattle.std.specs.Prelude.{◌≡◌, ◌-◌, leb, get_or, not, position};
 ghost use Rattle.std.specs.Bool.{beq};
-ghost use Rattle.lines.specs.Text.{is_blank, bytes_of, part_of, line_of, pass_over, next_word, LineEnd, same_bytes, no_value, value_or_none, number_said, number_or_zero};
-ghost use Rattle.lines.specs.TextSteps.{with_digit};
+ghost use Rattle.lines.specs.Text.{is_blank, bytes_of, part_of, line_of, pass_over, next_word, LineEnd, same_bytes, no_value, value_or_none, with_digit, number_said, number_or_zero};
 
 // A part of a text: a word up to the blank after it, or a line up to its newline. Stays two places beside the text, no slice: the next word is sought from its end on.
 // Stays without its text: a struct with it would lend the reader's buffer, which is filled again while a line's places are kept.
@@ -120,6 +119,7 @@ pub fn is_word(text: &[u8], word: Span, name: &[u8]) -> bool
 }
 
 // One digit more, as long as the number is at most 4,294,967,295.
+// Stays a test and a subtraction: tried with `to_digit` of the library, and the check found no proof.
 #[tactic(auto, using(crate::specs::TextSteps::digit_low, crate::specs::TextSteps::digit_high))]
 fn with_digit(value: u32, byte: u8) -> Option<u32>
     ensures { value_or_none result ≡ with_digit value byte }

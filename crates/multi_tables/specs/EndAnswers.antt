@@ -21,7 +21,7 @@ refusal_numbers (IncompatibleDirections p q d) = 12 ∷ p.0 ∷ q.0 ∷ side_num
 refusal_numbers (AlreadyLinked p) = 13 ∷ p.0 ∷ []
 refusal_numbers InputWired = 18 ∷ []
 
--- The answer without the place, as the calls over lent tables give it; nothing else is left out.
+-- The answer without the place, as the calls in place give it; nothing else is left out.
 abbrev pub unplaced : Result (Option (SubportIndex × PortPlace)) Refusal → Result (Option SubportIndex) Refusal
 unplaced (Ok (Some (s, x))) = Ok (Some s)
 unplaced (Ok None) = Ok None

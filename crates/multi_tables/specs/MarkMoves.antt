@@ -281,9 +281,9 @@ pub new_unmarked : (t : List Bool) {t₁ t₂ : List Bool} (a b : NodeMeta) {fir
 unfolding unmark_new
 new_unmarked t a b e₁ e₂ e₃ e₄ e₅ e₆ e₇ f₁ f₂ = rw (f₂, f₁, e₅, e₇, e₁, e₂, e₃, e₄, e₆)
 
-pub old_unmarked : (t : List Bool) {t₁ t₂ : List Bool} (a b : NodeMeta) {old new ai ao bi bo within before count rest : ℕ} →
-    old ≡ a.first_port.0 → new ≡ b.first_port.0 → ai ≡ a.incoming → ao ≡ a.outgoing → bi ≡ b.incoming → bo ≡ b.outgoing →
-    within ≡ new + (bi + bo) - old → before ≡ new - old → count ≡ min (ai + ao) before → rest ≡ ai + ao - within →
+pub old_unmarked : (t : List Bool) {t₁ t₂ : List Bool} (a b : NodeMeta) {old new ac bc within before count rest : ℕ} →
+    old ≡ a.first_port.0 → new ≡ b.first_port.0 → ac ≡ a.incoming + a.outgoing → bc ≡ b.incoming + b.outgoing →
+    within ≡ new + bc - old → before ≡ new - old → count ≡ min ac before → rest ≡ ac - within →
     t₁ ≡ fill t old count false → t₂ ≡ fill t₁ (old + within) rest false → t₂ ≡ unmark_old t a b
 unfolding unmark_old
-old_unmarked t a b e₁ e₂ e₃ e₄ e₅ e₆ g₁ g₂ g₃ g₄ f₁ f₂ = rw (f₂, f₁, g₄, g₃, g₂, g₁, e₁, e₂, e₃, e₄, e₅, e₆)
+old_unmarked t a b e₁ e₂ e₃ e₄ g₁ g₂ g₃ g₄ f₁ f₂ = rw (f₂, f₁, g₄, g₃, g₂, g₁, e₁, e₂, e₃, e₄)

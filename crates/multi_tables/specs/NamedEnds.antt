@@ -7,15 +7,11 @@ use Rattle.multi_tables.specs.declared.answers.Refusal.TheVariants.{UnknownPort,
 use Rattle.port_tables.specs.declared.direction.Direction.{Direction}
 use Rattle.port_tables.specs.declared.index.NodeIndex.{NodeIndex}
 use Rattle.multi_tables.specs.declared.named.SeenPair.{SeenPair}
-use Rattle.multi_tables.specs.TableReads.{seen_in, end_in, subports_in, first_in}
+use Rattle.multi_tables.specs.TableReads.{seen_in, end_in}
 use Rattle.port_tables.specs.Tables.{at}
 use Rattle.port_tables.specs.Limits.{port_slots}
 use Rattle.multi_tables.specs.declared.answers.SubportIndex.{SubportIndex}
-use Rattle.multi_tables.specs.declared.named.EndNeed.{EndNeed}
-use Rattle.multi_tables.specs.declared.named.LinkNeed.{LinkNeed}
 use Rattle.multi_tables.specs.declared.named.SeenPair.TheVariants as both
-use Rattle.multi_tables.specs.declared.named.EndNeed.TheVariants as need
-use Rattle.multi_tables.specs.declared.named.LinkNeed.TheVariants as needs
 
 -- Linking ports. Where an input named has a wire, under release 2, nothing is done: 7, 8, else 18. What follows these is the rest, without
 -- that check.
@@ -139,66 +135,12 @@ module _ (marks : List Bool) (links owners : List ℕ) (flags : List Bool) where
 unfoldable pub read_in : List Bool → ℕ → ℕ → SubportIndex
 read_in marks p o = subport# p (cond (flag_at marks port_slots p) o 0)
 
--- Preparing an end: ready as it is, one more subport, or a split.
-
 -- the inner port and the offset of the lowest unlinked one of so many slots from the first on; none where all have a link, or they lie outside the table
 unfoldable pub free_end : List ℕ → ℕ → ℕ → Option (ℕ × ℕ)
 free_end links first count =
     cond (leb (first + count) port_slots)
     (cond (ltb (lowest_unlinked links first 0 count) count) (Some (first + lowest_unlinked links first 0 count, lowest_unlinked links first 0 count)) None)
     None
-
-unfoldable pub reuse_at : ℕ → ℕ → ℕ → EndNeed
-reuse_at first count o = cond (ltb o count) (need.Ready (first + o) o) need.Grow
-
--- a split port: the lowest unlinked offset, else one more
-unfoldable pub reuse_in : List ℕ → List ℕ → ℕ → Direction → EndNeed
-reuse_in links owners p d =
-    cond (leb (first_in links owners p d + subports_in links owners p d) port_slots)
-    (reuse_at (first_in links owners p d) (subports_in links owners p d) (lowest_unlinked links (first_in links owners p d) 0 (subports_in links owners p d)))
-    need.Grow
-
-unfoldable pub end_need_in : List Bool → List ℕ → List ℕ → ℕ → Direction → EndNeed
-end_need_in marks links owners p d =
-    cond (flag_at marks port_slots p) (reuse_in links owners p d) (cond (eqb (at links p) 0) (need.Ready p 0) need.Split)
-
--- Linking two ports: the refusal, or both ends where they are ready; else which ends have to be prepared.
-
-abbrev pub ends_ready : Direction → Direction → ℕ → ℕ → ℕ → ℕ → Result LinkNeed Refusal
-ends_ready d e x o y r = cond (same_side d e) (Err (IncompatibleDirections (port# x) (port# y) d)) (Ok (needs.Ends x o y r))
-
-abbrev pub second_ready : Direction → Direction → ℕ → ℕ → EndNeed → Result LinkNeed Refusal
-second_ready d e x o (need.Ready y r) = ends_ready d e x o y r
-second_ready d e x o need.Grow = Ok (needs.Both d e)
-second_ready d e x o need.Split = Ok (needs.Both d e)
-
-abbrev pub both_ready : Direction → Direction → EndNeed → EndNeed → Result LinkNeed Refusal
-both_ready d e (need.Ready x o) second = second_ready d e x o second
-both_ready d e need.Grow second = Ok (needs.Both d e)
-both_ready d e need.Split second = Ok (needs.Both d e)
-
--- the second port is not live
-abbrev pub first_ready : ℕ → Direction → EndNeed → Result LinkNeed Refusal
-first_ready b d (need.Ready x o) = Err (UnknownSecondPort (port# b))
-first_ready b d need.Grow = Ok (needs.First d)
-first_ready b d need.Split = Ok (needs.First d)
-
-unfoldable pub first_need : List Bool → List ℕ → List ℕ → ℕ → Direction → ℕ → Result LinkNeed Refusal
-first_need marks links owners a d b = first_ready b d (end_need_in marks links owners a d)
-
-unfoldable pub both_need : List Bool → List ℕ → List ℕ → ℕ → Direction → ℕ → Direction → Result LinkNeed Refusal
-both_need marks links owners a d b e = both_ready d e (end_need_in marks links owners a d) (end_need_in marks links owners b e)
-
-module _ (marks : List Bool) (links owners : List ℕ) (flags : List Bool) where
-  abbrev pub link_seen : ℕ → ℕ → Port → Port → Result LinkNeed Refusal
-  link_seen a b dead second = Err (UnknownPort (port# a))
-  link_seen a b hidden second = Err (HiddenPort (port# a))
-  link_seen a b (visible n d) hidden = Err (HiddenPort (port# b))
-  link_seen a b (visible n d) dead = first_need marks links owners a d b
-  link_seen a b (visible n d) (visible k e) = both_need marks links owners a d b e
-
-  unfoldable pub link_need : ℕ → ℕ → Result LinkNeed Refusal
-  link_need a b = link_seen a b (seen_in owners flags a) (seen_in owners flags b)
 
 -- Linking two ports and leaving no stub: the refusal, or that they are of blocks on opposite sides.
 unfoldable pub pair_named : List ℕ → List Bool → ℕ → ℕ → Result (Unit {0}) Refusal

@@ -1,12 +1,11 @@
 -- Steps of the scans over lent tables, over plain values.
-use Rattle.std.specs.Prelude.{◌≡◌, Bool, get_or, Option, Some, None, Result, Ok}
+use Rattle.std.specs.Prelude.{◌≡◌, Bool, get_or, leb, Option, Some, None, Result, Ok}
 use Rattle.std.proofs.Math.Path.{refl, ap, sym}
-use Rattle.std.proofs.Common.{◌∙◌, eq-eqb, le-leb}
+use Rattle.std.proofs.Common.{◌∙◌, eq-eqb}
 use mathlib.Core.List.{List, [], ◌∷◌, ◌++◌, flat_map}
-use Rattle.std.proofs.Math.Bool.{true, false}
+use Rattle.std.proofs.Math.Bool.{true, false, cond}
 use Prim.Native.Nat.{ℕ, ◌<◌, ◌+◌, ◌-◌, ◌≤◌, min, suc}
 use native.Mathlib.Omega.{arith}
-use Rattle.std.proofs.lemmas.Bool.{lt-leb}
 use Rattle.multi_tables.specs.Scans.{first_found, link_port, span_first, span_count, links_in, port_links_by, port_links_in, links_rest, beyond_in, block_links_in, wires_in}
 use Rattle.multi_tables.specs.declared.answers.SubportLink.{SubportLink}
 use Rattle.port_tables.specs.Lists.{filter, range}
@@ -145,18 +144,16 @@ module _ (marks : List Bool) (links owners : List ℕ) (flags : List Bool) where
       row_done h = let a : stop - p ≡ 0 = omega arith in rw a
 
   module _ (t : SubportLink → Bool) (from end held o : ℕ) where
-    pub beyond_all : (place : ℕ) → place ≡ held → place ≤ from
-        → first_found (filter t (links_rest marks links owners flags from 0 (min end port_slots - from))) ≡ first_found (filter t (beyond_in marks links owners flags from end held o))
+    pub beyond_start : (s : ℕ × ℕ) → s ≡ cond (leb held from) (from, 0) (held - 1, o + 1)
+        → first_found (filter t (links_rest marks links owners flags s.0 s.1 (min end port_slots - s.0))) ≡ first_found (filter t (beyond_in marks links owners flags from end held o))
     unfolding beyond_in
-    beyond_all place e h = rw (le-leb held from (omega arith))
-
-    pub beyond_rest : (place w : ℕ) → place ≡ held → from < place → w ≡ o
-        → first_found (filter t (links_rest marks links owners flags (place - 1) (w + 1) (min end port_slots - (place - 1)))) ≡ first_found (filter t (beyond_in marks links owners flags from end held o))
-    unfolding beyond_in
-    beyond_rest place w e h f =
-        let a : o + 1 ≡ suc o = omega arith in
-        let g : from < held = omega arith in
-        rw (lt-leb held from g, e, f, a)
+    beyond_start s e = go (leb held from) s e
+      where
+        go : (b : Bool) (s : ℕ × ℕ) → s ≡ cond b (from, 0) (held - 1, o + 1)
+            → first_found (filter t (links_rest marks links owners flags s.0 s.1 (min end port_slots - s.0)))
+            ≡ first_found (filter t (cond b (links_rest marks links owners flags from 0 (min end port_slots - from)) (links_rest marks links owners flags (held - 1) (suc o) (min end port_slots - (held - 1)))))
+        go true s e = rw e
+        go false s e = let a : o + 1 ≡ suc o = omega arith in rw (e, a)
 
   -- A block.
 

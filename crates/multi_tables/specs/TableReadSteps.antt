@@ -145,6 +145,10 @@ module _ (links owners : List ℕ) (flags : List Bool) (p : ℕ) where
       go true = refl
       go false = refl
 
+  pub end_wired : (x far : ℕ) (s : SubportIndex) → x ≡ at links p → 1 ≤ x → far ≡ x - 1 → s ≡ subport_in links owners flags far → Ok (Some s) ≡ wire_end_in links owners flags p
+  unfolding wire_end_in far_in
+  end_wired x far s e h f g = rw (ne_eqb (at links p) 0 (λ z. let k : x ≡ 0 = e ∙ z in omega (arith, h, k)), g, f, e)
+
   pub wire_none : {r : Option SubportIndex} → Ok r ≡ wire_end_in links owners flags p → r ≡ None → Ok None ≡ wire_in links owners flags p
   wire_none e h = ap placed (ap Ok (sym h) ∙ e) ∙ wire_placed
 

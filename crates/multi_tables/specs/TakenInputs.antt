@@ -5,11 +5,10 @@ use Rattle.port_tables.specs.declared.direction.Direction.TheVariants.{Incoming,
 use Rattle.multi_tables.specs.Forms.{Port, dead, hidden, visible, End, inner, lacking, good_offset, taken_under}
 use Rattle.multi_tables.specs.TableReads.{seen_in, end_in}
 use Rattle.multi_tables.specs.FanOutScans.{wires_at_in}
-use Rattle.multi_tables.specs.NamedEnds.{subport_pair, taken_ends, taken_seen, link_need, pair_named, link_named}
+use Rattle.multi_tables.specs.NamedEnds.{subport_pair, taken_ends, taken_seen, pair_named, link_named}
 use Rattle.port_tables.specs.declared.release.Release.{Release}
 use Rattle.multi_tables.specs.declared.answers.Refusal.{Refusal}
 use Rattle.multi_tables.specs.declared.answers.Refusal.TheVariants.{BadOffset, UnknownOffset}
-use Rattle.multi_tables.specs.declared.named.LinkNeed.{LinkNeed}
 use Rattle.multi_tables.specs.declared.named.SeenPair.{SeenPair}
 use Rattle.multi_tables.specs.declared.named.SeenPair.TheVariants as both
 use Rattle.port_tables.specs.Entries.{port#}
@@ -65,10 +64,6 @@ inputs_free marks links owners flags release a b =
 
 -- what a call names, where that refusal comes first
 module _ (marks : List Bool) (links owners : List ℕ) (flags : List Bool) (release : Release) where
-  unfoldable pub link_need_under : ℕ → ℕ → Result LinkNeed Refusal
-  link_need_under a b =
-      cond (taken_in marks links owners flags release a b) (Err (taken_ports_in owners flags a b)) (link_need marks links owners flags a b)
-
   unfoldable pub pair_named_under : ℕ → ℕ → Result (Unit {0}) Refusal
   pair_named_under a b =
       cond (taken_in marks links owners flags release a b) (Err (taken_ports_in owners flags a b)) (pair_named owners flags a b)

@@ -7,6 +7,7 @@ use port_tables::direction::Direction;
 use port_tables::index::{NodeIndex, PortIndex};
 
 // A port with an offset among its subports; 0 for a port that is not split.
+// Stays a number: such a port has one subport, and it is at offset 0.
 #[derive(Clone, Copy)]
 pub struct SubportIndex {
     pub port: PortIndex,
@@ -18,9 +19,16 @@ impl SubportIndex {
     pub fn new_unique(port: PortIndex) -> Self
         ensures { result ≡ subport# port.0 0 }
     {
+        SubportIndex::new_multi(port, 0)
+    }
+
+    // The subport of a port at an offset. portgraph's multiport graph has it under this name.
+    pub fn new_multi(port: PortIndex, subport_offset: u16) -> Self
+        ensures { result ≡ subport# port.0 subport_offset }
+    {
         SubportIndex {
             port,
-            subport_offset: 0,
+            subport_offset,
         }
     }
 }
@@ -69,7 +77,7 @@ pub struct SubportLink {
     pub place: PortPlace,
 }
 
-// An end without its place, as the calls on a lent graph answer.
+// An end without its place, as the calls in place answer.
 pub fn unplaced(
     answer: Result<Option<(SubportIndex, PortPlace)>, Refusal>,
 ) -> Result<Option<SubportIndex>, Refusal>

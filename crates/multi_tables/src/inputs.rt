@@ -1,9 +1,9 @@
 // What release 2 refuses: a link that names an input which already has a wire. Refusals 2, 7, 8 and 9 come before it.
 ghost use Rattle.std.specs.Prelude.{◌≡◌};
-ghost use Rattle.multi_tables.specs.TakenInputs.{ends_there, inputs_free, wired_in, taken_in, taken_sub_in, taken_ports_in, link_need_under, pair_named_under, link_named_under};
+ghost use Rattle.multi_tables.specs.TakenInputs.{ends_there, inputs_free, wired_in, taken_in, taken_sub_in, taken_ports_in, pair_named_under, link_named_under};
 
 use crate::answers::{Refusal, SubportIndex};
-use crate::named::{LinkNeed, SeenPair};
+use crate::named::SeenPair;
 use crate::seen::SidedPort;
 use crate::wire_tables::WireTables;
 use port_tables::direction::Direction;
@@ -79,20 +79,6 @@ impl WireTables<'_> {
             return Err(self.taken_ports(a, b));
         }
         Ok(())
-    }
-
-    // What a link of two ports needs, or why it is refused, by release 2 too.
-    #[tactic(auto, unfolding(crate::specs::TakenInputs::link_need_under, crate::specs::TakenInputs::inputs_free))]
-    pub fn link_need_under(
-        self,
-        release: Release,
-        a: PortIndex,
-        b: PortIndex,
-    ) -> Result<LinkNeed, Refusal>
-        ensures { result ≡ link_need_under self.entry.marks.now self.entry.links.now self.entry.owners.now self.entry.flags.now release a.0 b.0 }
-    {
-        self.inputs_free(release, a, b)?;
-        self.link_need(a, b)
     }
 
     // Whether two ports can be linked, room apart, by release 2 too.

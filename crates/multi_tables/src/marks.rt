@@ -9,7 +9,8 @@ use port_tables::index::{NODE_SLOTS, PORT_SLOTS};
 use port_tables::node_entry::NodeMeta;
 use port_tables::numbers::wide;
 
-// What a table of flags holds at a place; false outside.
+// What a table of flags holds at a place; false outside. Stays beside `at` of port_tables, and `put_flag` beside `put`: each says its own table's definition, so
+// that one function over the type would stand below both as a third; no plainer.
 #[tactic(auto, unfolding(crate::specs::Forms::flag_at))]
 pub fn flagged<const N: usize>(flags: &[bool; N], place: usize) -> bool
     ensures { result ≡ flag_at flags.now N place }
@@ -18,6 +19,7 @@ pub fn flagged<const N: usize>(flags: &[bool; N], place: usize) -> bool
 }
 
 // Sets the flag at a place; outside the table nothing changes.
+// Tests and indexes, as `put` does.
 #[tactic(auto, unfolding(crate::specs::Forms::put_flag))]
 pub fn put_flag<const N: usize>(flags: &mut [bool; N], place: usize, flag: bool)
     ensures { flags.new ≡ put_flag flags.old N place flag }
@@ -27,7 +29,8 @@ pub fn put_flag<const N: usize>(flags: &mut [bool; N], place: usize, flag: bool)
     }
 }
 
-// Sets the marks of two ports, the first one first.
+// Sets the marks of two ports, the first one first. Stays one function: its calls set both ends of a mark, or move an end, and two calls
+// each would be no plainer.
 pub fn put_marks(
     marks: &mut [bool; PORT_SLOTS],
     first: u32,
@@ -81,12 +84,12 @@ impl Recount {
     fn move_kept(self, marks: &mut [bool; PORT_SLOTS])
         ensures { marks.new ≡ lay_kept marks.old marks.old self.before self.after }
     {
-        let old = wide(self.before.first_port.0);
-        let new = wide(self.after.first_port.0);
-        let old_in = usize::from(self.before.incoming);
-        let new_in = usize::from(self.after.incoming);
+        let old = self.before.first();
+        let new = self.after.first();
+        let old_in = self.before.incoming();
+        let new_in = self.after.incoming();
         let incoming = old_in.min(new_in);
-        let outgoing = usize::from(self.before.outgoing).min(usize::from(self.after.outgoing));
+        let outgoing = self.before.outgoing().min(self.after.outgoing());
         if new <= old {
             move_marks(marks, old, new, incoming);
             move_marks(marks, old + old_in, new + new_in, outgoing);
@@ -96,15 +99,16 @@ impl Recount {
         }
     }
 
-    // Unmarks the ports of each side that were not there before.
+    // Unmarks the ports of each side that were not there before. How many are kept is worked out here and in `move_kept`, each of which needs other counts beside
+    // them: a method for both would be two more names; no plainer.
     fn unmark_new(self, marks: &mut [bool; PORT_SLOTS])
         ensures { marks.new ≡ unmark_new marks.old self.before self.after }
     {
-        let first = wide(self.after.first_port.0);
-        let new_in = usize::from(self.after.incoming);
-        let new_out = usize::from(self.after.outgoing);
-        let kept_in = usize::from(self.before.incoming).min(new_in);
-        let kept_out = usize::from(self.before.outgoing).min(new_out);
+        let first = self.after.first();
+        let new_in = self.after.incoming();
+        let new_out = self.after.outgoing();
+        let kept_in = self.before.incoming().min(new_in);
+        let kept_out = self.before.outgoing().min(new_out);
         unmark(marks, first + kept_in, new_in - kept_in);
         unmark(marks, first + new_in + kept_out, new_out - kept_out);
     }
@@ -113,10 +117,10 @@ impl Recount {
     fn unmark_old(self, marks: &mut [bool; PORT_SLOTS])
         ensures { marks.new ≡ unmark_old marks.old self.before self.after }
     {
-        let old = wide(self.before.first_port.0);
-        let new = wide(self.after.first_port.0);
-        let count = usize::from(self.before.incoming) + usize::from(self.before.outgoing);
-        let end = new + (usize::from(self.after.incoming) + usize::from(self.after.outgoing));
+        let old = self.before.first();
+        let new = self.after.first();
+        let count = self.before.port_count();
+        let end = new + self.after.port_count();
         let within = end.saturating_sub(old);
         unmark(marks, old, count.min(new.saturating_sub(old)));
         unmark(marks, old + within, count.saturating_sub(within));

@@ -2,7 +2,7 @@
 ghost use Rattle.std.specs.Prelude.{◌≡◌, ◌+◌, leb};
 ghost use Rattle.port_tables.specs.Limits.{port_slots};
 ghost use Rattle.multi_tables.specs.TableReads.{end_in};
-ghost use Rattle.multi_tables.specs.NamedEnds.{end_or, block_port, seen_pair, subport_pair, end_named, free_ends, second_end, first_end, link_named, read_in, free_end, reuse_in, end_need_in, first_need, both_need, link_need, pair_named};
+ghost use Rattle.multi_tables.specs.NamedEnds.{end_or, block_port, seen_pair, subport_pair, end_named, free_ends, second_end, first_end, link_named, read_in, free_end, pair_named};
 
 use crate::answers::{Refusal, SubportIndex};
 use crate::marks::flagged;
@@ -15,33 +15,12 @@ use port_tables::numbers::wide;
 use port_tables::tables::at;
 
 // How the two ports that a link names are seen.
+// No side with an Option of the other: the cases say which port is not live; no plainer.
 #[derive(Clone, Copy)]
 pub enum SeenPair {
     // The first is of a block, on this side; the second is not live.
     First(Direction),
     // Both are of blocks, on these sides.
-    Both(Direction, Direction),
-}
-
-// What an end needs before it can take a link. The inner port and its offset stay two numbers: who matches on them hands each on by itself.
-#[derive(Clone, Copy)]
-pub enum EndNeed {
-    // Nothing: the inner port and its offset.
-    Ready(u32, u16),
-    // One more subport.
-    Grow,
-    // A hidden node.
-    Split,
-}
-
-// What a link of two ports needs.
-#[derive(Clone, Copy)]
-pub enum LinkNeed {
-    // Nothing: the inner port and the offset of each end.
-    Ends(u32, u16, u32, u16),
-    // The first end, of this side, has to be prepared; the second port is not live.
-    First(Direction),
-    // One end or both, of these sides, have to be prepared.
     Both(Direction, Direction),
 }
 
@@ -75,10 +54,11 @@ pub fn read_in(marks: &[bool; PORT_SLOTS], subport: SubportIndex) -> SubportInde
 }
 
 // Whether a range of slots lies within the table.
+// A first slot and a number, no range, here and in what reads such slots: the definitions take both, and a range would be taken apart again.
 pub fn row_fits(first: usize, count: usize) -> bool
     ensures { result ≡ leb (first + count) port_slots }
 {
-    first <= PORT_SLOTS && count <= PORT_SLOTS - first
+    first.saturating_add(count) <= PORT_SLOTS
 }
 
 // The inner port and the offset of the lowest unlinked one of `count` subports from a slot on; none where all have a link, or they lie outside the table.
@@ -134,7 +114,6 @@ impl WireTables<'_> {
     }
 
     // The inner port of an end of a block's port, or the refusal that names the port.
-    #[tactic(auto)]
     pub(crate) fn end_or(self, port: SidedPort, offset: u16) -> Result<u32, Refusal>
         ensures { result ≡ end_or self.entry.marks.now self.entry.links.now self.entry.owners.now self.entry.flags.now port.port (end_in self.entry.marks.now self.entry.links.now self.entry.owners.now port.port port.side offset) }
     {
@@ -198,76 +177,6 @@ impl WireTables<'_> {
         self.first_end(from, to, side)
     }
 
-    // A split port: the lowest unlinked offset, else one more.
-    #[tactic(auto, unfolding(crate::specs::NamedEnds::reuse_in, crate::specs::NamedEnds::reuse_at, crate::specs::NamedEnds::free_end))]
-    fn reuse_in(self, port: SidedPort) -> EndNeed
-        ensures { result ≡ reuse_in self.entry.links.now self.entry.owners.now port.port port.side }
-    {
-        let count = self.subports_in(port);
-        let first = self.first_in(port);
-        let Some((end, offset)) = free_end(self.links, first, count) else {
-            return EndNeed::Grow;
-        };
-        EndNeed::Ready(end, offset)
-    }
-
-    // What the end that a link of this port takes needs.
-    #[tactic(auto, unfolding(crate::specs::NamedEnds::end_need_in))]
-    pub fn need_in(self, port: SidedPort) -> EndNeed
-        ensures { result ≡ end_need_in self.entry.marks.now self.entry.links.now self.entry.owners.now port.port port.side }
-    {
-        if flagged(self.marks, wide(port.port)) {
-            return self.reuse_in(port);
-        }
-        if at(self.links, wide(port.port)) == 0 {
-            return EndNeed::Ready(port.port, 0);
-        }
-        EndNeed::Split
-    }
-
-    // The second port is not live.
-    #[tactic(auto, unfolding(crate::specs::NamedEnds::first_need))]
-    fn first_need(self, a: SidedPort, b: PortIndex) -> Result<LinkNeed, Refusal>
-        ensures { result ≡ first_need self.entry.marks.now self.entry.links.now self.entry.owners.now a.port a.side b.0 }
-    {
-        match self.need_in(a) {
-            EndNeed::Ready(_, _) => Err(Refusal::UnknownSecondPort(b)),
-            EndNeed::Grow | EndNeed::Split => Ok(LinkNeed::First(a.side)),
-        }
-    }
-
-    // Both ports are live. Two tests: what the second end needs is not asked where the first one is not ready.
-    #[tactic(auto, unfolding(crate::specs::NamedEnds::both_need), using(port_tables::specs::SameSides::sides_compared))]
-    fn both_need(self, a: SidedPort, b: SidedPort) -> Result<LinkNeed, Refusal>
-        ensures { result ≡ both_need self.entry.marks.now self.entry.links.now self.entry.owners.now a.port a.side b.port b.side }
-    {
-        let EndNeed::Ready(x, o) = self.need_in(a) else {
-            return Ok(LinkNeed::Both(a.side, b.side));
-        };
-        let EndNeed::Ready(y, r) = self.need_in(b) else {
-            return Ok(LinkNeed::Both(a.side, b.side));
-        };
-        if a.side == b.side {
-            return Err(Refusal::IncompatibleDirections(PortIndex(x), PortIndex(y), a.side));
-        }
-        Ok(LinkNeed::Ends(x, o, y, r))
-    }
-
-    // What a link of two ports needs, or why it is refused.
-    #[tactic(auto, unfolding(crate::specs::NamedEnds::link_need, crate::specs::NamedEnds::seen_pair))]
-    pub fn link_need(self, a: PortIndex, b: PortIndex) -> Result<LinkNeed, Refusal>
-        ensures { result ≡ link_need self.entry.marks.now self.entry.links.now self.entry.owners.now self.entry.flags.now a.0 b.0 }
-    {
-        match self.seen_pair(a, b)? {
-            SeenPair::First(d) => self.first_need(SidedPort { port: a.0, side: d }, b),
-            SeenPair::Both(d, e) => {
-                let first = SidedPort { port: a.0, side: d };
-                let second = SidedPort { port: b.0, side: e };
-                self.both_need(first, second)
-            }
-        }
-    }
-
     // Whether two ports can be linked, room apart, or the refusal with the ports as named.
     #[tactic(auto, unfolding(crate::specs::NamedEnds::pair_named, crate::specs::NamedEnds::seen_pair), using(port_tables::specs::SameSides::sides_compared))]
     pub fn pair_named(self, a: PortIndex, b: PortIndex) -> Result<(), Refusal>
@@ -275,12 +184,8 @@ impl WireTables<'_> {
     {
         match self.seen_pair(a, b)? {
             SeenPair::First(_) => Err(Refusal::UnknownSecondPort(b)),
-            SeenPair::Both(d, e) => {
-                if d == e {
-                    return Err(Refusal::IncompatibleDirections(a, b, d));
-                }
-                Ok(())
-            }
+            SeenPair::Both(d, e) if d == e => Err(Refusal::IncompatibleDirections(a, b, d)),
+            SeenPair::Both(_, _) => Ok(()),
         }
     }
 }

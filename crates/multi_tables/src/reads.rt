@@ -42,6 +42,7 @@ fn run_up(owners: &[u32; PORT_SLOTS], owner: u32, from: usize) -> usize
 }
 
 // How many slots in a row below `from` have this owner.
+// Stays beside `run_up`: this one ends at the table's start, that one goes on past its end, and each says its own definition.
 fn run_down(owners: &[u32; PORT_SLOTS], owner: u32, from: usize) -> usize
     ensures { result ≡ run_down owners.now owner from }
 {
@@ -51,7 +52,8 @@ fn run_down(owners: &[u32; PORT_SLOTS], owner: u32, from: usize) -> usize
         .unwrap_or(most)
 }
 
-// How many leaps below `from` in a row end at a slot of this owner.
+// How many leaps below `from` in a row end at a slot of this owner. Stays beside `run_down`: each says its own definition, so that one over the step would
+// stand below both as a third; no plainer.
 fn leap_down(owners: &[u32; PORT_SLOTS], owner: u32, from: usize) -> usize
     ensures { result ≡ leap_down owners.now owner from }
 {
@@ -93,7 +95,7 @@ fn first_beside(owners: &[u32; PORT_SLOTS], copy: SidedPort) -> usize
     }
 }
 
-// The one at an offset.
+// The one at an offset. Tests, and then answers: `then_some` was tried, and that its cast fits could not be proved, as it casts outside the test too.
 #[tactic(auto, unfolding(crate::specs::TableReads::end_beside, crate::specs::TableReads::first_beside))]
 fn end_beside(owners: &[u32; PORT_SLOTS], copy: SidedPort, offset: u16) -> Option<u32>
     ensures { result ≡ end_as (end_beside owners.now copy.port copy.side offset) }
@@ -156,7 +158,8 @@ fn first_unlinked(links: &[u32]) -> Option<usize>
     links.iter().position(|far| *far == 0)
 }
 
-// The lowest offset from 0 whose port, counted from `first`, has no link; `count` where all have, which stays a number: it is the offset of the next subport.
+// The lowest offset from 0 whose port, counted from `first`, has no link; `count` where all have: its definition answers so, and that of
+// a free end compares it, so that an Option would be turned back; no plainer.
 pub fn lowest_unlinked(links: &[u32; PORT_SLOTS], first: usize, count: usize) -> usize
     requires { first + count ≤ port_slots }
     ensures { result ≡ lowest_unlinked links.now first 0 count }
@@ -238,10 +241,7 @@ impl WireTables<'_> {
             },
         );
         let offset = run_down(self.owners, owner, wide(port));
-        SubportIndex {
-            port: PortIndex(far_in(self.links, copy)),
-            subport_offset: offset as u16,
-        }
+        SubportIndex::new_multi(PortIndex(far_in(self.links, copy)), offset as u16)
     }
 
     // What an end is linked with, and where that stands.
@@ -259,10 +259,8 @@ impl WireTables<'_> {
     pub fn wire_end_in(self, port: u32) -> Option<SubportIndex>
         ensures { Ok result ≡ wire_end_in self.entry.links.now self.entry.owners.now self.entry.flags.now port }
     {
-        if at(self.links, wide(port)) == 0 {
-            return None;
-        }
-        Some(self.subport_in(far_in(self.links, wide(port))))
+        let far = at(self.links, wide(port)).checked_sub(1)?;
+        Some(self.subport_in(far))
     }
 
     // What cutting an unsplit port answers: its inner far port, and where the visible end of that stands.

@@ -1,5 +1,5 @@
 // The first link that a walk finds from a port and offset on, over lent tables: one offset, one port, a row of ports, a block.
-ghost use Rattle.std.specs.Prelude.{◌≡◌, ◌+◌, ◌-◌, ◌≤◌, ◌<◌, min};
+ghost use Rattle.std.specs.Prelude.{◌≡◌, ◌+◌, ◌-◌, ◌≤◌, ◌<◌, cond, leb, min};
 ghost use Rattle.port_tables.specs.Limits.{port_slots};
 ghost use Rattle.port_tables.specs.Lists.{filter};
 ghost use Rattle.multi_tables.specs.Forms.{seen_as, subport#, wire_to};
@@ -48,6 +48,20 @@ pub struct Held {
     pub offset: u16,
 }
 
+impl Held {
+    // Where a walk over the ports from `from` on goes on: the port, and the offset.
+    pub fn start(self, from: usize) -> (usize, usize)
+        ensures { result ≡ cond (leb self.port from) (from, 0) (self.port - 1, self.offset + 1) }
+    {
+        let place = wide(self.port);
+        if place <= from {
+            (from, 0)
+        } else {
+            (place - 1, usize::from(self.offset) + 1)
+        }
+    }
+}
+
 impl WireTables<'_> {
     // The slot of a port's first end.
     #[tactic(auto, unfolding(crate::specs::Scans::span_first))]
@@ -94,7 +108,8 @@ impl WireTables<'_> {
         }
     }
 
-    // The link of the end at a slot, if it has one that is given.
+    // The link of the end at a slot, if it has one that is given. That its port is the one named stays a clause, here and below: definitions make links of any
+    // numbers, and a type that held it would be none of theirs; no plainer.
     pub fn link_at(
         self,
         only: LinkFilter,
@@ -115,17 +130,14 @@ impl WireTables<'_> {
             return None;
         }
         Some(SubportLink {
-            from: SubportIndex {
-                port: PortIndex(port),
-                subport_offset: offset,
-            },
-            to: to,
+            from: SubportIndex::new_multi(PortIndex(port), offset),
+            to,
             place: place_in(self.owners, far.0),
         })
     }
 
     // The first link at these ends. Stays a loop, as the search behind it and the one from the back: what `find_map` gives is told of the runs of its closure, and
-    // the invariant here of links.
+    // the invariant here of links. The test is a pattern, here and in the searches like it: `is_some` was tried, and the proof of what is returned did not close.
     pub fn scan_port(self, only: LinkFilter, ends: PortEnds) -> Option<SubportLink>
         ensures { (result ≡ first_found (filter (λ w. passes_in self.entry.owners.now self.entry.flags.now only w.to.port.0)
             (links_in self.entry.links.now self.entry.owners.now self.entry.flags.now ends.port ends.first ends.from (ends.end - ends.from))))
@@ -186,6 +198,7 @@ impl WireTables<'_> {
     }
 
     // The first link of the ports from `from` on and below `end` that lies beyond what a cursor holds.
+    // A first port and an end, no range, here and in the crates above: the definitions take both, and what is held replaces the first; no plainer.
     pub fn next_beyond(
         self,
         only: LinkFilter,
@@ -197,14 +210,12 @@ impl WireTables<'_> {
             (beyond_in self.entry.marks.now self.entry.links.now self.entry.owners.now self.entry.flags.now from end held.port held.offset)))
             × (link_port 0 result < port_slots) }
     {
-        let place = wide(held.port);
-        if place <= from {
-            return self.next_link(only, from, 0, end);
-        }
-        self.next_link(only, place - 1, usize::from(held.offset) + 1, end)
+        let (port, offset) = held.start(from);
+        self.next_link(only, port, offset, end)
     }
 
     // The first link of the outgoing side of what a node slot holds, beyond what a cursor holds.
+    // The flag stays beside the slot: each is read off its own table, and the definition takes both; no plainer.
     pub fn block_links(self, slot: NodeSlot, hidden: bool, held: Held) -> Option<SubportLink>
         ensures { (result ≡ first_found (block_links_in self.entry.marks.now self.entry.links.now self.entry.owners.now self.entry.flags.now slot.entry hidden held.port held.offset))
             × (link_port 0 result < port_slots) }

@@ -10,6 +10,7 @@ pub struct SidedPort {
 }
 
 // A port number, read.
+// Three cases, and no Result: a second port that is not live is no refusal to `seen_pair`, and another one to `second_end`.
 #[derive(Clone, Copy)]
 pub enum SeenPort {
     // Not live.

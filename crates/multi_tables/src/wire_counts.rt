@@ -23,6 +23,7 @@ fn linked_at(links: &[u32; PORT_SLOTS], slot: usize) -> usize
 impl WireTables<'_> {
     // How many of the slots in a row from `from` on that have this owner are linked. Stays a loop, as the one below: a filter over the range was tried,
     // and that its count is the definition's could not be proved.
+    // That a count is at most the table's size stays a clause, here and in `scans`: a type that held it would be taken apart at each sum; no plainer.
     fn linked_up(self, owner: u32, from: usize) -> usize
         requires { from ≤ 4294967296 }
         ensures { (result ≡ linked_up self.entry.links.now from (run_up self.entry.owners.now owner from)) × (result ≤ port_slots) }
@@ -38,6 +39,7 @@ impl WireTables<'_> {
     }
 
     // How many of the slots in a row below `from` that have this owner are linked.
+    // Stays beside `linked_up`, as `run_down` beside `run_up`.
     fn linked_down(self, owner: u32, from: usize) -> usize
         ensures { (result ≡ linked_down self.entry.links.now from (run_down self.entry.owners.now owner from)) × (result ≤ port_slots) }
     {

@@ -1,4 +1,4 @@
-// The tables that tell what a port is and what it is wired with, as a caller holds them: those of a graph by value, or lent ones.
+// The tables that tell what a port is and what it is wired with, which the graph lends.
 use port_tables::index::{NODE_SLOTS, PORT_SLOTS};
 
 // The definitions take the tables one by one: most read two or three.

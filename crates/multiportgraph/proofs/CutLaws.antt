@@ -21,6 +21,7 @@ use Rattle.multiportgraph.specs.Graph.{with_graph}
 use Rattle.multiportgraph.specs.HiddenNodes.{unsplit}
 use Rattle.multiportgraph.specs.LinkCutLaws.{CutDone, CutSays, CutSaid}
 use Rattle.multiportgraph.specs.Lookups.{direction_seen, direction_of}
+use Rattle.multiportgraph.specs.Presumed.{OnBlock}
 use Rattle.multiportgraph.specs.Reading.{is_split, seen, standing}
 use Rattle.multiportgraph.specs.Space.{Work, cut_works, cut_seen_works}
 use Rattle.multiportgraph.specs.SpaceLaws.{Spaced, spaced_done, own_room, no_work, cuts_nothing, cut_fits, unsplit_room, unlink_keeps_room}
@@ -108,3 +109,13 @@ module _ {m : MultiPortGraph} (w : MultiWf m) where
       go dead t e = let q : UnknownPort (port# p) ≡ a = cc in ap (cut_refused m) (sym q) ∙ cut_port_seen m p dead t
       go hidden t e = let q : HiddenPort (port# p) ≡ a = cc in ap (cut_refused m) (sym q) ∙ cut_port_seen m p hidden t
       go (visible n d) t e = absurd (zero_is_not_one (cc))
+
+  -- a port that has a side is a block's
+  pub block_of_side : (p : ℕ) {d : Direction} → direction_of m p ≡ Ok d → OnBlock m p d
+  unfolding direction_of
+  block_of_side p {d} e = go (seen m p) refl e
+    where
+      go : (s : Port) → seen m p ≡ s → direction_seen p s ≡ Ok d → OnBlock m p d
+      go dead t e = absurd (zero_is_not_one (cc))
+      go hidden t e = absurd (zero_is_not_one (cc))
+      go (visible n c) t e = let q : c ≡ d = cc in record { wf = w; node = n; is = t ∙ ap (visible n) q }

@@ -1,8 +1,7 @@
 -- What the loops over a block's ports and over listed hidden nodes do, turn by turn, and what the calls that remove or resize a block amount to.
 use Rattle.std.proofs.Math.Path.{◌≡◌, refl, subst}
-use Rattle.std.proofs.Common.{sym, ap, ◌∙◌, length-append, drop-cons, le-leb, leb-true, leb-false}
-use Rattle.std.proofs.Math.ListN.{drop_of_length-le}
-use Rattle.std.specs.Prelude.{Bool, cond, List, [], ◌∷◌, ◌++◌, get_or, set, length, take, drop, leb, Option, Some, None, Result, Ok, Err}
+use Rattle.std.proofs.Common.{sym, ap, ◌∙◌, length-append, drop-cons, le-leb}
+use Rattle.std.specs.Prelude.{Bool, cond, List, [], ◌∷◌, ◌++◌, get_or, set, length, take, drop, Option, Some, None, Result, Ok, Err}
 use Rattle.std.proofs.Math.Bool.{true, false}
 use Prim.Native.Nat.{ℕ, zero, suc, ◌+◌, ◌-◌, ◌≤◌, ◌<◌, min}
 use native.Mathlib.Omega.{arith}
@@ -14,21 +13,19 @@ use Rattle.portgraph.specs.Model.{Wf}
 use Rattle.portgraph.specs.Lookups.{entry_at, meta_at}
 use Rattle.port_tables.specs.Entries.{meta_of_entry}
 use Rattle.portgraph.specs.LookupSteps.{found_block_fits}
-use Rattle.portgraph.specs.Calls.{remove_node}
-use Rattle.portgraph.specs.Resize.{plan_of, refuse, set_num_ports, moves_after, moves_after_under}
+use Rattle.portgraph.specs.Resize.{Plan, plan_of, refuse, same, inside, anew, set_num_ports, set_num_ports_under, moves_after, moves_after_under}
+use Rattle.portgraph.specs.Resize as below
 use Rattle.port_tables.specs.ResizeLinks.{BlockFits}
 use Rattle.portgraph.specs.ResizeSteps.{plan_too_many, plan_unknown}
 use Rattle.port_tables.specs.ResizeLinkSteps.{sets_append}
 use Rattle.portgraph.specs.ResizeLaws.{wf_set}
 use Rattle.portgraph.specs.SlotHolds.{wf_remove}
-use Rattle.port_tables.specs.declared.direction.Direction.{Direction}
 use Rattle.port_tables.specs.declared.node_entry.NodeMeta.{NodeMeta}
 use Rattle.port_tables.specs.declared.node_entry.NodeEntry.{NodeEntry}
 use Rattle.port_tables.specs.declared.node_entry.NodeEntry.TheVariants as node_variants
-use Rattle.portgraph.specs.declared.alloc.NodeRemoved as lower_removed
 use Rattle.portgraph.specs.declared.resize.PortsSet as lower_set
 use Rattle.portgraph.specs.declared.portgraph.PortGraph.{PortGraph}
-use Rattle.multiportgraph.specs.Reading.{port_of, is_hidden, is_split, copy_node, copy_side}
+use Rattle.multiportgraph.specs.Reading.{is_hidden, is_split, copy_node}
 use Rattle.multiportgraph.specs.Calls.{drop_block, remove_block, set_as, set_counts, told_meta, moves_told, moves_told_under, set_counts_under}
 use Rattle.multiportgraph.specs.WellFormed.{MultiWf}
 use Rattle.multiportgraph.specs.CodeForms.{block_in, block_found}
@@ -40,9 +37,9 @@ use Rattle.multi_tables.specs.declared.answers.Refusal.TheVariants.{TooManyPorts
 use Rattle.multiportgraph.specs.declared.multiportgraph.NodeRemoved.{NodeRemoved}
 use Rattle.multiportgraph.specs.declared.multiportgraph.PortsSet.{PortsSet}
 use Rattle.multiportgraph.specs.declared.multiportgraph.MultiPortGraph.{MultiPortGraph}
-use Rattle.multiportgraph.specs.Graph.{with_graph}
+use Rattle.multiportgraph.specs.Graph.{with_graph, with_marks}
 use Rattle.multiportgraph.specs.Answers.{remove_numbers, set_numbers}
-use Rattle.multiportgraph.specs.HiddenNodes.{remove_copy, unsplit, unsplit_range, recounted, copies_in, copies_dropped, remove_lone, remove_all}
+use Rattle.multiportgraph.specs.HiddenNodes.{remove_copy, unsplit, unsplit_range, marks_moved, recounted, copies_in, copies_dropped, remove_lone, remove_all}
 use Rattle.multiportgraph.specs.Cases.{remove_refused, remove_meta, set_refused, resized, set_meta}
 use Rattle.multiportgraph.specs.CaseLaws.{remove_cases, set_cases}
 use Rattle.portgraph.specs.declared.resize.SetError.TheVariants as set_error
@@ -92,24 +89,11 @@ pub unsplit_none : (m m' : MultiPortGraph) (p : ℕ) (b : Bool) → p < port_slo
 unfolding is_split
 unsplit_none m m' p b l f g e = e ∙ unsplit_plain m p (flag_inside m.multiport port_slots p l ∙ (sym f ∙ g))
 
-pub unsplit_done : (m : MultiPortGraph) (p k n : ℕ) → n ≤ k → m ≡ unsplit_range m p (n - k)
-unfolding unsplit_range
-unsplit_done m p k n h = let e : n - k ≡ 0 = omega arith in rw e
-
 -- Listed hidden nodes go.
 
 pub remove_turn : (m m' : MultiPortGraph) (l : List ℕ) (k : ℕ) → k < length l → m' ≡ remove_lone m (get_or l k 0) → remove_all m' (drop (k + 1) l) ≡ remove_all m (drop k l)
 unfolding remove_all
 remove_turn m m' l k h e = let a : k + 1 ≡ suc k = omega arith in rw (e, a, drop-cons l k 0 h)
-
-pub remove_done : (m : MultiPortGraph) (l : List ℕ) (k : ℕ) → length l ≤ k → m ≡ remove_all m (drop k l)
-unfolding remove_all
-remove_done m l k h = rw (drop_of_length-le l h)
-
--- the listed node by its copy port
-pub lone_removed : (m r : MultiPortGraph) (c p : ℕ) (d : Direction) → d ≡ copy_side m c → p ≡ port_of m.graph c d 0 → r ≡ remove_copy m p c → r ≡ remove_lone m c
-unfolding remove_lone
-lone_removed m r c p d e f g = g ∙ ap (λ x. remove_copy m x c) (f ∙ ap (λ x. port_of m.graph c x 0) e)
 
 -- Hidden nodes of a range are listed.
 
@@ -219,19 +203,8 @@ copies_dropped_few m k i o f =
 pub lower_wf : (m : MultiPortGraph) → MultiWf m → Wf m.graph
 lower_wf m w = record { model = w.model; good = w.fine.good; holds = w.fine.holds }
 
-pub range_in : (m : MultiPortGraph) (n c : ℕ) (k : NodeMeta) → MultiWf m → Some k ≡ meta_at m.graph n → c ≡ k.incoming + k.outgoing
-    → Wf m.graph × (k.first_port.0 + c ≤ port_slots)
-range_in m n c k w e f =
-    let fits = found_block_fits m.graph (lower_wf m w) n k e in
-    let a = fits.ends in
-    let b = fits.ports in
-    (lower_wf m w, omega arith)
-
 pub wf_bare : (m m' : MultiPortGraph) (p n : ℕ) → m' ≡ unsplit_range m p n → Wf m.graph → Wf m'.graph
 wf_bare m m' p n e w = rw e (wf_unsplit_range m p n w)
-
-pub wf_range_is : (m m' : MultiPortGraph) (p n : ℕ) → m' ≡ unsplit_range m p n → MultiWf m → Wf m'.graph
-wf_range_is m m' p n e w = wf_bare m m' p n e (lower_wf m w)
 
 abbrev RemovedAs : MultiPortGraph → ℕ → NodeRemoved → Type 0
 RemovedAs m n r = (r ≡ remove_block m n) × (remove_numbers r.answer ≡ remove_numbers (remove_block m n).answer)
@@ -268,21 +241,6 @@ module _ (m : MultiPortGraph) (n : ℕ) where
       go None f h g q = let z : ◌≡◌ {A = ℕ} 0 1 = cc in absurd (omega arith)
       go (Some j) f true g q = let z : ◌≡◌ {A = ℕ} 0 1 = cc in absurd (omega arith)
       go (Some j) f false g q = let z : k ≡ j = cc in (ap Some z ∙ f, g)
-
--- its hidden nodes went, then the node
-pub block_dropped : (m : MultiPortGraph) (n : ℕ) (k : NodeMeta) {c : ℕ} {bare : MultiPortGraph} {s : lower_removed.NodeRemoved} → c ≡ k.incoming + k.outgoing
-    → bare ≡ unsplit_range m k.first_port.0 c → s ≡ remove_node bare.graph n → with_graph bare s.graph ≡ drop_block m n k
-unfolding drop_block
-block_dropped m n k {bare = bare} f g j =
-    let b : bare ≡ unsplit_range m k.first_port.0 (k.incoming + k.outgoing) = g ∙ ap (unsplit_range m k.first_port.0) f in
-    ap (λ x. with_graph bare x.graph) j ∙ ap (λ x. with_graph x (remove_node x.graph n).graph) b
-
-module _ (m : MultiPortGraph) (n : ℕ) where
-  pub remove_removed : (k : NodeMeta) (c : ℕ) (bare : MultiPortGraph) (s : lower_removed.NodeRemoved) → Some k ≡ meta_at m.graph n → is_hidden m n ≡ false
-      → c ≡ k.incoming + k.outgoing → bare ≡ unsplit_range m k.first_port.0 c → s ≡ remove_node bare.graph n
-      → RemovedAs m n (record { graph = with_graph bare s.graph; answer = Ok tt })
-  remove_removed k c bare s e h f g j =
-      removed_as m n _ (ap (λ x. record { graph = x; answer = Ok tt }) (block_dropped m n k f g j) ∙ remove_cond m n k false h ∙ ap (remove_meta m n) e ∙ sym (remove_cases m n))
 
 -- Changing a block's counts.
 
@@ -343,6 +301,68 @@ module _ (m : MultiPortGraph) (n i o room : ℕ) where
           let y : ◌≡◌ {A = PortsSet} (record { graph = g; answer = set_as a }) (record { graph = resized m n k i o s.graph s.answer; answer = set_as s.answer }) = rw (q, u) in
           y ∙ v ∙ set_by (Some k) e
 
+-- the single-link graph refuses, and stays as it was
+pub kept_below : (g : PortGraph) (n i o room : ℕ) {s : lower_set.PortsSet} {r : Refusal} → s ≡ set_num_ports g n i o room → set_as s.answer ≡ Err r → s.graph ≡ g
+unfolding set_num_ports_under
+kept_below g n i o room {s} {r} e z = ap (λ (x : lower_set.PortsSet). x.graph) e ∙ go (plan_of g n i o room) (ap (λ (x : lower_set.PortsSet). set_as x.answer) (sym e) ∙ z)
+  where
+    go : (p : Plan) → set_as (below.set_by g n i o p).answer ≡ Err r → (below.set_by g n i o p).graph ≡ g
+    go (refuse x) h = refl
+    go same h = refl
+    go (inside k) h = let z : ◌≡◌ {A = ℕ} 0 1 = cc in absurd (omega arith)
+    go (anew k f) h = let z : ◌≡◌ {A = ℕ} 0 1 = cc in absurd (omega arith)
+
+-- the marks that move with a node's ports are those of the graph in which it has its new counts
+pub recounted_is : (m : MultiPortGraph) (n : ℕ) (g : PortGraph) (k : NodeMeta) {loose : MultiPortGraph} → Some k ≡ meta_at m.graph n
+    → loose ≡ with_marks (with_graph m g) (marks_moved m.multiport (Some k) (meta_at g n)) → loose ≡ recounted m n g
+unfolding recounted
+recounted_is m n g k e h = h ∙ ap (λ (x : Option NodeMeta). with_marks (with_graph m g) (marks_moved m.multiport x (meta_at g n))) e
+
+-- a block that is there, whatever room the move list has: the lower graph refuses, or has its new counts
+module _ (m : MultiPortGraph) (n i o room : ℕ) (few : i + o ≤ node_ports) (k : NodeMeta) (e : Ok k ≡ block_found m n) (s : lower_set.PortsSet) {c : Result ℕ Refusal}
+    (f : s ≡ set_num_ports m.graph n i o room) (told : c ≡ set_as s.answer) where
+  by_answer : (v : Result ℕ SetError) (g : MultiPortGraph) → s.answer ≡ v → g ≡ resized m n k i o s.graph v → ◌≡◌ {A = PortsSet} (record { graph = g; answer = c }) (set_counts m n i o room)
+  by_answer v g q u =
+      ap (λ (y : Result ℕ Refusal). record { graph = g; answer = y }) (told ∙ ap set_as q)
+      ∙ set_block m n i o room few k (found_is m n k e).0 s v g (found_is m n k e).1 f q u
+
+  pub block_left : {a : Refusal} → c ≡ Err a → ◌≡◌ {A = PortsSet} (record { graph = m; answer = c }) (set_counts m n i o room)
+  block_left {a} z = go s.answer refl (sym told ∙ z)
+    where
+      go : (v : Result ℕ SetError) → s.answer ≡ v → set_as v ≡ Err a → ◌≡◌ {A = PortsSet} (record { graph = m; answer = c }) (set_counts m n i o room)
+      go (Ok t) q y = let z : ◌≡◌ {A = ℕ} 0 1 = cc in absurd (omega arith)
+      go (Err set_error.TooManyPorts) q y = by_answer _ m q refl
+      go (Err set_error.UnknownNode) q y = by_answer _ m q refl
+      go (Err set_error.MovesTooShort) q y = by_answer _ m q refl
+      go (Err set_error.NoRoom) q y = by_answer _ m q refl
+
+  pub block_done : {t : ℕ} {g : MultiPortGraph} → c ≡ Ok t → g ≡ remove_all (recounted m n s.graph) (copies_dropped m k i o) → ◌≡◌ {A = PortsSet} (record { graph = g; answer = c }) (set_counts m n i o room)
+  block_done {t} {g} z u = go s.answer refl (sym told ∙ z)
+    where
+      go : (v : Result ℕ SetError) → s.answer ≡ v → set_as v ≡ Ok t → ◌≡◌ {A = PortsSet} (record { graph = g; answer = c }) (set_counts m n i o room)
+      go (Ok y) q x = by_answer _ g q u
+      go (Err set_error.TooManyPorts) q x = let z : ◌≡◌ {A = ℕ} 0 1 = cc in absurd (omega arith)
+      go (Err set_error.UnknownNode) q x = let z : ◌≡◌ {A = ℕ} 0 1 = cc in absurd (omega arith)
+      go (Err set_error.MovesTooShort) q x = let z : ◌≡◌ {A = ℕ} 0 1 = cc in absurd (omega arith)
+      go (Err set_error.NoRoom) q x = let z : ◌≡◌ {A = ℕ} 0 1 = cc in absurd (omega arith)
+
+  -- refused below, the graph is the one handed in
+  pub left_below : {a : Refusal} → c ≡ Err a → with_graph m s.graph ≡ (set_counts m n i o room).graph
+  left_below z = ap (with_graph m) (kept_below m.graph n i o room f (sym told ∙ z)) ∙ ap (λ (x : PortsSet). x.graph) (block_left z)
+
+-- a node that is no block is refused alike, whatever room the move list has
+pub block_refused : (m : MultiPortGraph) (n i o room : ℕ) {a : Refusal} → i + o ≤ node_ports → Err a ≡ block_found m n → set_refused m a ≡ set_counts m n i o room
+unfolding block_found
+block_refused m n i o room {a} few e = there (meta_at m.graph n) refl (is_hidden m n) refl e
+  where
+    As : Refusal → Type 0
+    As y = set_refused m y ≡ set_counts m n i o room
+
+    there : (x : Option NodeMeta) → x ≡ meta_at m.graph n → (h : Bool) → is_hidden m n ≡ h → Err a ≡ block_in h x → As a
+    there None f h g q = let z : UnknownNode ≡ a = cc in subst As z (set_gone m n i o room few f)
+    there (Some k) f true g q = let z : HiddenNode ≡ a = cc in subst As z (set_copy m n i o room few k f g)
+    there (Some k) f false g q = let z : ◌≡◌ {A = ℕ} 0 1 = cc in absurd (omega arith)
+
 module _ (m : MultiPortGraph) (n i o : ℕ) (b : List ℕ) where
   abbrev SetAs : PortsSet → List ℕ → Type 0
   SetAs r b' =
@@ -376,55 +396,28 @@ module _ (m : MultiPortGraph) (n i o : ℕ) (b : List ℕ) where
       unfolding moves_told_under
       set_hidden h = set_as_lem _ b (set_copy m n i o (length b) few k e h) (rw h)
 
-      pub set_answered : (s : lower_set.PortsSet) (a : Result ℕ SetError) (g : MultiPortGraph) (b' : List ℕ) → is_hidden m n ≡ false → s ≡ set_num_ports m.graph n i o (length b)
-          → b' ≡ moves_after m.graph n i o b → s.answer ≡ a → g ≡ resized m n k i o s.graph a → SetAs (record { graph = g; answer = set_as a }) b'
-      unfolding moves_told_under
-      set_answered s a g b' h f j q u = set_as_lem _ b' (set_block m n i o (length b) few k e s a g h f q u) (rw h j)
-
-  -- by what is found of the node, and whether the counts are within the limit
-  abbrev found_within : Result NodeMeta Refusal
-  found_within = cond (leb (i + o) node_ports) (block_found m n) (Err TooManyPorts)
-
-  pub set_refused_lem : {a : Refusal} → Err a ≡ found_within → SetAs (set_refused m a) b
+  -- by what is found of the node
+  pub set_refused_lem : {a : Refusal} → i + o ≤ node_ports → Err a ≡ block_found m n → SetAs (set_refused m a) b
   unfolding block_found
-  set_refused_lem {a} e = go (leb (i + o) node_ports) refl e
+  set_refused_lem {a} few e = there (meta_at m.graph n) refl (is_hidden m n) refl e
     where
       As : Refusal → Type 0
       As y = SetAs (set_refused m y) b
 
-      there : i + o ≤ node_ports → (x : Option NodeMeta) → x ≡ meta_at m.graph n → (h : Bool) → is_hidden m n ≡ h → Err a ≡ block_in h x → As a
-      there few None f h g q = let z : UnknownNode ≡ a = cc in subst As z (set_unknown few f)
-      there few (Some k) f true g q = let z : HiddenNode ≡ a = cc in subst As z (set_hidden few k f g)
-      there few (Some k) f false g q = let z : ◌≡◌ {A = ℕ} 0 1 = cc in absurd (omega arith)
-
-      go : (t : Bool) → leb (i + o) node_ports ≡ t → Err a ≡ cond t (block_found m n) (Err TooManyPorts) → As a
-      go true f q = there (leb-true _ _ f) (meta_at m.graph n) refl (is_hidden m n) refl q
-      go false f q = let z : TooManyPorts ≡ a = cc in subst As z (set_too_many (leb-false _ _ f))
+      there : (x : Option NodeMeta) → x ≡ meta_at m.graph n → (h : Bool) → is_hidden m n ≡ h → Err a ≡ block_in h x → As a
+      there None f h g q = let z : UnknownNode ≡ a = cc in subst As z (set_unknown few f)
+      there (Some k) f true g q = let z : HiddenNode ≡ a = cc in subst As z (set_hidden few k f g)
+      there (Some k) f false g q = let z : ◌≡◌ {A = ℕ} 0 1 = cc in absurd (omega arith)
 
   -- a block that is there: the lower graph refuses, or has its new counts
   module _ (few : i + o ≤ node_ports) (k : NodeMeta) (e : Ok k ≡ block_found m n) (s : lower_set.PortsSet) {b' : List ℕ} {c : Result ℕ Refusal}
       (f : s ≡ set_num_ports m.graph n i o (length b)) (j : b' ≡ moves_after m.graph n i o b) (told : c ≡ set_as s.answer) where
-    by_answer : (v : Result ℕ SetError) (g : MultiPortGraph) → s.answer ≡ v → g ≡ resized m n k i o s.graph v → SetAs (record { graph = g; answer = c }) b'
-    by_answer v g q u =
-        subst (λ (y : Result ℕ Refusal). SetAs (record { graph = g; answer = y }) b') (sym (told ∙ ap set_as q))
-        (set_answered few k (found_is m n k e).0 s v g b' (found_is m n k e).1 f j q u)
+    moves_are : b' ≡ moves_told m n i o b
+    unfolding moves_told_under
+    moves_are = rw (found_is m n k e).1 j
 
     pub set_left : {a : Refusal} → c ≡ Err a → SetAs (record { graph = m; answer = c }) b'
-    set_left {a} z = go s.answer refl (sym told ∙ z)
-      where
-        go : (v : Result ℕ SetError) → s.answer ≡ v → set_as v ≡ Err a → SetAs (record { graph = m; answer = c }) b'
-        go (Ok t) q y = let z : ◌≡◌ {A = ℕ} 0 1 = cc in absurd (omega arith)
-        go (Err set_error.TooManyPorts) q y = by_answer _ m q refl
-        go (Err set_error.UnknownNode) q y = by_answer _ m q refl
-        go (Err set_error.MovesTooShort) q y = by_answer _ m q refl
-        go (Err set_error.NoRoom) q y = by_answer _ m q refl
+    set_left z = set_as_lem _ b' (block_left m n i o (length b) few k e s f told z) moves_are
 
     pub set_done : {t : ℕ} {g : MultiPortGraph} → c ≡ Ok t → g ≡ remove_all (recounted m n s.graph) (copies_dropped m k i o) → SetAs (record { graph = g; answer = c }) b'
-    set_done {t} {g} z u = go s.answer refl (sym told ∙ z)
-      where
-        go : (v : Result ℕ SetError) → s.answer ≡ v → set_as v ≡ Ok t → SetAs (record { graph = g; answer = c }) b'
-        go (Ok y) q x = by_answer _ g q u
-        go (Err set_error.TooManyPorts) q x = let z : ◌≡◌ {A = ℕ} 0 1 = cc in absurd (omega arith)
-        go (Err set_error.UnknownNode) q x = let z : ◌≡◌ {A = ℕ} 0 1 = cc in absurd (omega arith)
-        go (Err set_error.MovesTooShort) q x = let z : ◌≡◌ {A = ℕ} 0 1 = cc in absurd (omega arith)
-        go (Err set_error.NoRoom) q x = let z : ◌≡◌ {A = ℕ} 0 1 = cc in absurd (omega arith)
+    set_done z u = set_as_lem _ b' (block_done m n i o (length b) few k e s f told z u) moves_are

@@ -5,8 +5,7 @@ use Rattle.portgraph.specs.Lookups.{meta_at}
 use Rattle.multiportgraph.specs.Reading.{is_hidden}
 use Rattle.multiportgraph.specs.HiddenNodes as hiding
 use Rattle.multiportgraph.specs.declared.multiportgraph.MultiPortGraph.{MultiPortGraph}
-use Rattle.multi_tables.specs.declared.answers.Refusal.TheVariants.{UnknownNode, HiddenNode}
-use Rattle.multiportgraph.specs.declared.prepare.Prepared.{Prepared}
+use Rattle.multi_tables.specs.declared.answers.Refusal.TheVariants.{UnknownNode, HiddenNode, NoRoom}
 use Rattle.port_tables.specs.declared.node_entry.NodeMeta.{NodeMeta}
 use Rattle.multi_tables.specs.declared.answers.Refusal.{Refusal}
 
@@ -15,10 +14,13 @@ unfoldable pub linked_from : List ℕ → ℕ → ℕ → ℕ
 linked_from t first zero = 0
 linked_from t first (suc n) = cond (eqb (at t (first + n)) 0) (linked_from t first n) (suc n)
 
--- a prepared end; without room the graph is the one handed in
+-- the graph after an end is prepared, with the inner port and its offset; without room that is told, and the graph is the one handed in
+abbrev pub Prepared : Type 0
+Prepared = MultiPortGraph × Result (ℕ × ℕ) Refusal
+
 abbrev pub prepared_as : MultiPortGraph → hiding.Prepared → Prepared
-prepared_as m (hiding.ready k q o) = record { graph = k; end = Some (q, o) }
-prepared_as m hiding.full = record { graph = m; end = None }
+prepared_as m (hiding.ready k q o) = (k, Ok (q, o))
+prepared_as m hiding.full = (m, Err NoRoom)
 
 abbrev pub block_in : Bool → Option NodeMeta → Result NodeMeta Refusal
 block_in h None = Err UnknownNode

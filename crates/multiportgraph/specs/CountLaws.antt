@@ -31,6 +31,7 @@ use Rattle.port_tables.specs.Listing.{Apart, member_left, member_right, member_a
 use Rattle.multiportgraph.specs.WalkRule.{listed_is_wire, wire_is_listed, listed_once}
 use Rattle.multiportgraph.specs.declared.multiportgraph.MultiPortGraph.{MultiPortGraph}
 use Rattle.port_tables.specs.Places.{Place, Wire, flag}
+use Rattle.multiportgraph.specs.ScanLaws.{flat_map_single}
 
 -- Sums and lengths.
 
@@ -72,14 +73,9 @@ gathered g t n = gathered_from g t 0 n ∙ total_same n (λ j. at (0 + j)) at (�
     at : ℕ → ℕ
     at k = cond (t k) (length (g k)) 0
 
-flat_map_alone : {A : Type 0} (l : List A) → flat_map (λ (x : A). x ∷ []) l ≡ l
-unfolding flat_map
-flat_map_alone [] = refl
-flat_map_alone (x ∷ l) = ap (λ r. x ∷ r) (flat_map_alone l)
-
 -- how many numbers below n there are for which a test holds
 pub counted : (t : ℕ → Bool) (n : ℕ) → length (filter t (range 0 n)) ≡ total n (λ j. flag (t j))
-counted t n = ap length (sym (flat_map_alone (filter t (range 0 n)))) ∙ (gathered (λ x. x ∷ []) t n ∙ total_same n (λ j. cond (t j) 1 0) (λ j. flag (t j)) (λ j l. go (t j)))
+counted t n = ap length (sym (flat_map_single (filter t (range 0 n)))) ∙ (gathered (λ x. x ∷ []) t n ∙ total_same n (λ j. cond (t j) 1 0) (λ j. flag (t j)) (λ j l. go (t j)))
   where
     go : (b : Bool) → cond b 1 0 ≡ flag b
     go true = refl

@@ -71,6 +71,10 @@ pub record EndOf (m : MultiPortGraph) (M : Model) (x : model.InnerPlace) (o q : 
 
 -- Sides and places.
 
+pub twice_reversed : (d : Direction) → reversed (reversed d) ≡ d
+twice_reversed Incoming = refl
+twice_reversed Outgoing = refl
+
 pub not_reversed : (d : Direction) → reversed d ≡ d → ⊥
 not_reversed Incoming e = zero_is_not_one (cc)
 not_reversed Outgoing e = zero_is_not_one (cc)

@@ -22,10 +22,10 @@ use Rattle.portgraph.specs.declared.portgraph.PortGraph.{PortGraph}
 use Rattle.portgraph.specs.declared.resize.PortsSet.{PortsSet}
 use Rattle.multiportgraph.specs.Reading.{is_hidden, is_split, copy_side, copy_node, port_of}
 use Rattle.multiportgraph.specs.WellFormed.{inner#, copy_place, Fine, Marked, copy_port, main_port_lem, Seen}
-use Rattle.multiportgraph.specs.Ends.{Hangs, hangs, copy_valid, copy_count, count_of_lem, one_copy, main_seen, block_seen, split_has_copy}
-use Rattle.multiportgraph.specs.RecountLaws.{Recount, WasMarked, marked_place, marks_long_lem, other_slot, other_count, recount_marks, marked_was, set_recounts, copy_place_same, grown, growth#, valid_kept, joins_same, ends_same, hidden_same, grown_fine, fresh, fresh_valid, fresh_slot, more_longer}
-use Rattle.multi_tables.specs.TableReads.{far_in, first_in, last_beside, grown_incoming, grown_outgoing}
-use Rattle.multiportgraph.specs.TableReadLaws.{first_there, far_is}
+use Rattle.multiportgraph.specs.Ends.{Hangs, copy_valid, copy_count, count_of_lem, main_seen, block_seen, split_has_copy}
+use Rattle.multiportgraph.specs.RecountLaws.{Recount, WasMarked, marked_place, marks_long_lem, other_slot, other_count, recount_marks, marked_was, set_recounts, growth#, valid_kept, joins_same, grown_fine, fresh_slot, more_longer}
+use Rattle.multi_tables.specs.TableReads.{far_in, last_beside, grown_incoming, grown_outgoing}
+use Rattle.multiportgraph.specs.TableReadLaws.{far_is}
 use Rattle.multiportgraph.specs.declared.multiportgraph.MultiPortGraph.{MultiPortGraph}
 use Rattle.multiportgraph.specs.HiddenNodes.{recounted, more_incoming, more_outgoing, enough}
 use Rattle.multiportgraph.specs.Presumed.{SplitPort}
@@ -140,33 +140,6 @@ module _ {m : MultiPortGraph} {M : Model} (f : Fine m M) (x : model.InnerPlace) 
   far_after s =
       ap (far_in g'.port_link) (sym (slot_x f x h r valid_after s)) ∙ far_is (grown_fine f x h r longer same) x (copy_place m h.copy) (joins_same f x h r longer same x ∙ h.back)
 
-  from_after : M'.join (copy_place (grown m h.copy g') h.copy) ≡ to x
-  from_after = ap M'.join (copy_place_same f (ends_same f x h r longer same) h.copy h.is_copy) ∙ (joins_same f x h r longer same (copy_place m h.copy) ∙ h.from)
-
-  hangs_after : Hangs (grown m h.copy g') M' x
-  hangs_after = hangs (grown_fine f x h r longer same) h.copy x (hidden_same f x h r longer same h.copy ∙ h.is_copy) from_after
-
-  same_copy : hangs_after.copy ≡ h.copy
-  same_copy = one_copy (grown_fine f x h r longer same) hangs_after.copy h.copy x hangs_after.from from_after
-
-  pub new_after : Seen m M x → port_of g' h.copy x.side (ports_on a x.side) ≡ first_in g'.port_link g'.port_meta (slot_of M.node x) x.side + ports_on a x.side
-  unfolding recounted
-  new_after s =
-      let k = hangs_after in
-      let n = k.several in
-      let first : first_in g'.port_link g'.port_meta (slot_of M.node x) x.side ≡ slot_of M'.node (inner# h.copy x.side 0) =
-      ap (λ (p : ℕ). first_in g'.port_link g'.port_meta p x.side) (sym (slot_x f x h r valid_after s))
-      ∙ (first_there (grown_fine f x h r longer same) x k
-      ∙ (k.reads 0 (omega arith) ∙ ap (λ (c : ℕ). slot_of M'.node (inner# c x.side 0)) same_copy)) in
-      let new = fresh_slot f x h r longer same in
-      omega arith
-
-  pub new_below : port_of g' h.copy x.side (ports_on a x.side) < port_slots
-  new_below =
-      let new = fresh_slot f x h r longer same in
-      let l = slot_in_range r.good (fresh f x h r longer same) (fresh_valid f x h r longer same) in
-      omega arith
-
   -- the copy port stands beside it
   pub new_beside : Seen m M x → port_of g' h.copy x.side (ports_on a x.side) ≡ last_beside x.side (far_in g'.port_link (slot_of M.node x)) (ports_on a x.side)
   new_beside s =
@@ -185,8 +158,6 @@ module _ {m : MultiPortGraph} {M : Model} (f : Fine m M) (x : model.InnerPlace) 
 -- By numbers: port p of side d, whose hidden node c has n subports; g is the lower graph after.
 pub record GrowTables (m : MultiPortGraph) (p : ℕ) (d : Direction) (c n : ℕ) (g : PortGraph) : Type 0 where
   pub marks : (recounted m c g).multiport ≡ set (set m.multiport (far_in m.graph.port_link p) false) (far_in g.port_link p) true
-  pub port : port_of g c d n ≡ first_in g.port_link g.port_meta p d + n
-  pub few : first_in g.port_link g.port_meta p d + n < port_slots
   pub beside : port_of g c d n ≡ last_beside d (far_in g.port_link p) n
   pub low : far_in g.port_link p < port_slots
 
@@ -202,24 +173,15 @@ grow_here {m} {M} f x s h e t =
     let n = counts x.side in
     let before : far_in m.graph.port_link (slot_of M.node x) ≡ slot_of M.node (copy_place m h.copy) = far_is f x (copy_place m h.copy) h.back in
     let after = far_after f x h r l.0 l.1 s in
-    let new = new_after f x h r l.0 l.1 s in
-    let low = new_below f x h r l.0 l.1 in
-    let port : port_of g h.copy x.side (num_ports m.graph h.copy x.side) ≡ first_in g.port_link g.port_meta (slot_of M.node x) x.side + num_ports m.graph h.copy x.side =
-    ap (port_of g h.copy x.side) n ∙ (new ∙ ap (λ (k : ℕ). first_in g.port_link g.port_meta (slot_of M.node x) x.side + k) (sym n)) in
     record {
       marks = grown_marks f x h r l.0 l.1 ∙ (λ i. set (set m.multiport (sym before i) false) (sym after i) true);
-      port = port;
-      few = omega arith;
       beside =
           ap (port_of g h.copy x.side) n
           ∙ (new_beside f x h r l.0 l.1 s ∙ ap (last_beside x.side (far_in g.port_link (slot_of M.node x))) (sym n));
       low = let q = slot_in_range r.good (copy_place m h.copy) (valid_after f x h r l.0 l.1) in omega arith;
     }
 
--- the new subport, by the first one, and by the copy port
-pub by_first : {m : MultiPortGraph} {p : ℕ} {d : Direction} {c n : ℕ} {g : PortGraph} → GrowTables m p d c n g → {first : ℕ} → first ≡ first_in g.port_link g.port_meta p d → first + n ≡ port_of g c d n
-by_first {n = n} t e = ap (λ (k : ℕ). k + n) e ∙ sym t.port
-
+-- the new subport, by the copy port
 pub by_copy : {m : MultiPortGraph} {p : ℕ} {d : Direction} {c n : ℕ} {g : PortGraph} → GrowTables m p d c n g → {far q : ℕ} → far ≡ far_in g.port_link p → q ≡ last_beside d far n → q ≡ port_of g c d n
 by_copy {d = d} {n = n} t e k = k ∙ (ap (λ (v : ℕ). last_beside d v n) e ∙ sym t.beside)
 

@@ -4,34 +4,27 @@ use Rattle.std.proofs.Math.Path.{refl, ap}
 use Rattle.std.proofs.Common.{sym, ◌∙◌}
 use Rattle.std.proofs.Math.Bool.{true, false, cond, not}
 use Rattle.port_tables.specs.Limits.{present}
-use Rattle.portgraph.specs.Calls.{link_ports}
 use Rattle.portgraph.specs.GoodSlots.{zero_is_not_one}
-use Rattle.port_tables.specs.declared.direction.Direction.{Direction}
 use Rattle.port_tables.specs.declared.direction.Direction.TheVariants.{Incoming, Outgoing}
 use Rattle.multiportgraph.specs.Reading.{seen, end_at}
-use Rattle.multi_tables.specs.Forms.{Port, dead, hidden, visible, subport#, good_offset, taken_under}
+use Rattle.multi_tables.specs.Forms.{Port, dead, hidden, visible, good_offset, taken_under}
 use Rattle.multi_tables.specs.TableReads.{end_in}
 use Rattle.multiportgraph.specs.WellFormed.{MultiWf}
 use Rattle.multiportgraph.specs.FanOutSteps.{wires_told}
 use Rattle.multiportgraph.specs.TableReadLaws.{seen_read, end_read_off}
 use Rattle.multiportgraph.specs.Refusals.{wired_seen, wired_input, input_taken}
 use Rattle.multiportgraph.specs.Calls.{link_pair_if, link_clean_if, link_sub_if, link_pair, link_clean, link_sub}
-use Rattle.multiportgraph.specs.Graph.{with_graph}
-use Rattle.multiportgraph.specs.Presumed.{OnBlock, BothOnBlock}
 use Rattle.multiportgraph.specs.Cases.{link_refused, link_clean_by}
-use Rattle.multi_tables.specs.NamedEnds.{taken_seen, taken_ends, taken_first, taken_second, link_need, pair_named, link_named, read_in}
-use Rattle.multiportgraph.specs.Named.{link_by, linked_by}
-use Rattle.multiportgraph.specs.NamedLaws.{sub_of_named, call_of_need, clean_done, first_on_block, both_on_blocks}
-use Rattle.multiportgraph.specs.LowerSteps.{subs_joined_below, ports_joined_below}
+use Rattle.multi_tables.specs.NamedEnds.{taken_seen, taken_ends, taken_first, taken_second, pair_named, link_named, read_in}
+use Rattle.multiportgraph.specs.Named.{joined_at, link_by}
+use Rattle.multiportgraph.specs.NamedLaws.{sub_of_named, link_done, clean_done}
 use Rattle.multiportgraph.specs.CaseLaws.{link_taken, link_clean_taken, link_sub_taken}
-use Rattle.multi_tables.specs.TakenInputs.{wired_port, wired_in, taken_in, taken_sub_in, taken_ports_in, link_need_under, pair_named_under, link_named_under}
+use Rattle.multi_tables.specs.TakenInputs.{wired_port, wired_in, taken_in, taken_sub_in, taken_ports_in, pair_named_under, link_named_under}
 use Rattle.multiportgraph.specs.declared.multiportgraph.MultiPortGraph.{MultiPortGraph}
 use Rattle.multi_tables.specs.declared.answers.SubportIndex.{SubportIndex}
 use Rattle.multiportgraph.specs.declared.multiportgraph.PortsLinked.{PortsLinked}
 use Rattle.multi_tables.specs.declared.answers.Refusal.{Refusal}
 use Rattle.multi_tables.specs.declared.answers.Refusal.TheVariants.{BadOffset, InputWired}
-use Rattle.multi_tables.specs.declared.named.LinkNeed.{LinkNeed}
-use Rattle.multi_tables.specs.declared.named.LinkNeed.TheVariants as needs
 use Rattle.multi_tables.specs.TakenSteps.{unrefused}
 
 -- The calls.
@@ -100,43 +93,6 @@ module _ {m : MultiPortGraph} (w : MultiWf m) where
       sub_untaken o r e = e ∙ ap (λ (u : Bool). link_sub_if u m a o b r) (sym t ∙ taken_is)
 
 module _ {m : MultiPortGraph} (w : MultiWf m) where
-  module _ (a b : ℕ) {e : Result LinkNeed Refusal} (is : e ≡ link_need_under m.multiport m.graph.port_link m.graph.port_meta m.copy_node m.release a b) where
-    pub ports_refused : {x : Refusal} → e ≡ Err x → link_refused m x ≡ link_pair m a b
-    unfolding link_need_under
-    ports_refused told = ap (linked_by m a b) (sym told ∙ is) ∙ go (taken_in m.multiport m.graph.port_link m.graph.port_meta m.copy_node m.release a b) refl
-      where
-        go : (t : Bool) → taken_in m.multiport m.graph.port_link m.graph.port_meta m.copy_node m.release a b ≡ t →
-            linked_by m a b (cond t (Err (taken_ports_in m.graph.port_meta m.copy_node a b)) (link_need m.multiport m.graph.port_link m.graph.port_meta m.copy_node a b)) ≡ link_pair m a b
-        go true h = ports_taken w a b refl h _ refl
-        go false h = ports_untaken w a b refl h (sym (call_of_need w a b))
-
-    need_told : {v : Result LinkNeed Refusal} → e ≡ v → ((x : Refusal) → Err x ≡ v → ⊥) → (taken_in m.multiport m.graph.port_link m.graph.port_meta m.copy_node m.release a b ≡ false) × (link_need m.multiport m.graph.port_link m.graph.port_meta m.copy_node a b ≡ v)
-    unfolding link_need_under
-    need_told told n = unrefused (taken_in m.multiport m.graph.port_link m.graph.port_meta m.copy_node m.release a b) (sym is ∙ told) (n _)
-
-    pub ports_joined : {x o y r : ℕ} → e ≡ Ok (needs.Ends x o y r) →
-        ◌≡◌ {A = PortsLinked} (record { graph = with_graph m (link_ports m.graph x y).graph; answer = Ok (subport# a o, subport# b r) }) (link_pair m a b)
-    ports_joined told =
-        let z = need_told told (λ x k. zero_is_not_one (cc)) in
-        ports_untaken w a b refl z.0 (ports_joined_below w a b refl z.1 refl)
-
-    pub first_block : {d : Direction} → e ≡ Ok (needs.First d) → OnBlock m a d
-    first_block told = first_on_block w a b _ (need_told told (λ x k. zero_is_not_one (cc))).1
-
-    pub both_blocks : {d c : Direction} → e ≡ Ok (needs.Both d c) → BothOnBlock m a d b c
-    both_blocks told = both_on_blocks w a b _ _ (need_told told (λ x k. zero_is_not_one (cc))).1
-
-    -- an end has to be prepared, or both
-    pub first_done : {d : Direction} → e ≡ Ok (needs.First d) → {l : PortsLinked} → l ≡ linked_by m a b (Ok (needs.First d)) → l ≡ link_pair m a b
-    first_done told h =
-        let z = need_told told (λ x k. zero_is_not_one (cc)) in
-        ports_untaken w a b refl z.0 (h ∙ (ap (linked_by m a b) (sym z.1) ∙ sym (call_of_need w a b)))
-
-    pub both_done : {d c : Direction} → e ≡ Ok (needs.Both d c) → {l : PortsLinked} → l ≡ linked_by m a b (Ok (needs.Both d c)) → l ≡ link_pair m a b
-    both_done told h =
-        let z = need_told told (λ x k. zero_is_not_one (cc)) in
-        ports_untaken w a b refl z.0 (h ∙ (ap (linked_by m a b) (sym z.1) ∙ sym (call_of_need w a b)))
-
   module _ (a b : ℕ) {e : Result (Unit {0}) Refusal} (is : e ≡ pair_named_under m.multiport m.graph.port_link m.graph.port_meta m.copy_node m.release a b) where
     pub clean_refused : {x : Refusal} → e ≡ Err x → link_refused m x ≡ link_clean m a b
     unfolding pair_named_under
@@ -164,12 +120,12 @@ module _ {m : MultiPortGraph} (w : MultiWf m) where
         go false h = sub_untaken w p q refl h o r (sym (sub_of_named w.fine p o q r))
 
     pub sub_joined : {x y : ℕ} → e ≡ Ok (x, y) → {s t : SubportIndex} → s ≡ read_in m.multiport p o → t ≡ read_in m.multiport q r →
-        ◌≡◌ {A = PortsLinked} (record { graph = with_graph m (link_ports m.graph x y).graph; answer = Ok (s, t) }) (link_sub m p o q r)
+        ◌≡◌ {A = PortsLinked} (record { graph = joined_at m x y; answer = Ok (s, t) }) (link_sub m p o q r)
     unfolding link_named_under
     sub_joined told f g =
         let z = unrefused (taken_in m.multiport m.graph.port_link m.graph.port_meta m.copy_node m.release p q) (sym is ∙ told) (λ k. zero_is_not_one (cc)) in
-        sub_untaken w p q refl z.0 o r (subs_joined_below w p o q r refl z.1 f g refl)
+        sub_untaken w p q refl z.0 o r (link_done w p o q r refl z.1 f g refl)
 
--- Over lent tables graph and answer are told apart: those of one link are those of another.
+-- A call in place tells its graph and its answer one by one: those of one link are those of another.
 pub parts_untaken : {k l : PortsLinked} → k ≡ l → {g : MultiPortGraph} {y : Result (SubportIndex × SubportIndex) Refusal} → (g ≡ k.graph) × (y ≡ k.answer) → (g ≡ l.graph) × (y ≡ l.answer)
 parts_untaken e h = (h.0 ∙ ap (λ (l : PortsLinked). l.graph) e, h.1 ∙ ap (λ (l : PortsLinked). l.answer) e)

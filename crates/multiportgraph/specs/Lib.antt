@@ -14,7 +14,6 @@
 --   Walks, WalkNumbers     the other walks, their starts, and fan-out
 --   Lookups       lookups on blocks and ports
 --   Listed        all wires and all blocks as numbers in a list
---   MultiLent     the same graph as tables apart: multi_in puts them together
 --
 -- What is proved, and need not be believed: everything else. A contract presumes of its graph only that it came from these calls
 -- (MultiWf, in WellFormed over the lower crate's Model). What that says nobody has to believe: the empty graph has it and every call keeps
@@ -22,7 +21,6 @@
 --   visible_nodes_lem, visible_ports_lem, visible_links_lem, split_one_copy, copy_one_split, no_wire_at_hidden (CountLaws)
 --   the work of a call is what it takes and gives back, and 10 is given exactly if a table would grow past its limit (SpaceLaws;
 --   for the cut of a port, CutLaws of proofs/)
---   words_of_graph, tables_fixed (LentGraph): the graph fixes each number of lent tables
 -- They speak in the words of Model (a node is live, a port stands at a place) and, for 10, of Space (the work of a call).
 pub mod Reading
 pub mod Graph
@@ -36,7 +34,6 @@ pub mod Walks
 pub mod WalkNumbers
 pub mod Lookups
 pub mod Listed
-pub mod MultiLent
 -- the code's own forms of these: the calls by cases, what inner functions give and presume, what is read off lent tables
 pub mod Cases
 pub mod CodeForms
@@ -50,6 +47,7 @@ pub mod ListScans
 pub mod WellFormed
 pub mod Space
 -- laws: calls by cases; ends and listings; each change of a graph; readings off tables; room
+pub mod CutSteps
 pub mod CaseLaws
 pub mod Ends
 pub mod WalkRule
@@ -69,7 +67,6 @@ pub mod NamedLaws
 pub mod NeedStays
 pub mod NeedLaws
 pub mod SpaceLaws
-pub mod LentLaws
 -- steps that the functions' proofs cite
 pub mod CodeFormSteps
 pub mod CopySteps
@@ -77,6 +74,7 @@ pub mod PrepareSteps
 pub mod CallSteps
 pub mod TidySteps
 pub mod LinkSteps
+pub mod LinkMade
 pub mod TableSteps
 pub mod LowerSteps
 pub mod NeedSteps
@@ -91,10 +89,5 @@ pub mod LinkWalkSteps
 pub mod SubportSteps
 pub mod FanOutSteps
 pub mod InputSteps
-pub mod LentSteps
-pub mod LentEndSteps
-pub mod LentSetSteps
-pub mod LentLinkSteps
-pub mod LentGraph
 pub mod ListSteps
 pub mod ListReads

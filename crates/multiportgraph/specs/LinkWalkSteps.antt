@@ -42,6 +42,7 @@ use Rattle.multi_tables.specs.declared.scans.LinkFilter.TheVariants as filters
 use Rattle.multi_tables.specs.declared.answers.Refusal.{Refusal}
 use Rattle.multi_tables.specs.declared.answers.PortPlace.{PortPlace}
 use Rattle.multi_tables.specs.declared.scans.Held.{Held}
+use Rattle.std.proofs.Common.{add-one}
 
 -- A block's links that a cursor has left.
 
@@ -96,9 +97,6 @@ module _ {B : Type 0} (end : B) (item : SubportLink → B) where
       go : (l : List SubportLink) (v : SubportLink) → None ≡ on_last (Some v) Some l → end ≡ on_last (item v) item l
       go [] v e = let z : ◌≡◌ {A = ℕ} 0 1 = cc in absurd (omega arith)
       go (u ∷ l) v e = go l u e
-
-plus_one : (p : ℕ) → p + 1 ≡ suc p
-plus_one p = omega arith
 
 -- Links of a block.
 
@@ -265,7 +263,7 @@ module _ (m : MultiPortGraph) (c : PortLinks) where
         → Some (v, record { port = c.port; front = v.from.subport_offset + 1; back = c.back }) ≡ step_front m c
     unfolding step_front
     front_item v e h =
-        ap (λ (x : ℕ). Some (v, record { port = c.port; front = x; back = c.back })) (plus_one v.from.subport_offset)
+        ap (λ (x : ℕ). Some (v, record { port = c.port; front = x; back = c.back })) (add-one v.from.subport_offset)
         ∙ first_item None (λ (u : SubportLink). Some (u, record { port = c.port; front = suc u.from.subport_offset; back = c.back })) true (links_left m c) r v (e ∙ ap first_found left_read) h
 
     pub front_none : r ≡ first_found left_told → r ≡ None → None ≡ step_front m c
@@ -277,7 +275,7 @@ module _ (m : MultiPortGraph) (c : PortLinks) where
         → Some (v, record { port = c.port; front = c.front; back = v.from.subport_offset + 1 }) ≡ step_back m c
     unfolding step_back
     back_link_item v e h =
-        ap (λ (x : ℕ). Some (v, record { port = c.port; front = c.front; back = x })) (plus_one v.from.subport_offset)
+        ap (λ (x : ℕ). Some (v, record { port = c.port; front = c.front; back = x })) (add-one v.from.subport_offset)
         ∙ last_item None (λ (u : SubportLink). Some (u, record { port = c.port; front = c.front; back = suc u.from.subport_offset })) (links_left m c) r v (e ∙ ap last_found left_read) h
 
     pub back_link_end : r ≡ last_found left_told → r ≡ None → None ≡ step_back m c

@@ -1,7 +1,7 @@
 -- What one pass over lent tables lists is what the walk lists: under MultiWf each end, the wires of a port, of a block, and all;
 -- and all blocks.
 use Rattle.std.specs.Prelude.{◌≡◌, Bool, ℕ, zero, suc, ◌+◌, ◌-◌, ◌*◌, ◌≤◌, ◌<◌, eqb, length, Option, Some, None, Result, Ok}
-use Rattle.std.proofs.Math.Path.{refl, sym, ap, subst}
+use Rattle.std.proofs.Math.Path.{refl, sym, ap}
 use Rattle.std.proofs.Common.{◌∙◌, inl, inr, length-append}
 use Rattle.std.proofs.Math.Bool.{true, false, cond}
 use mathlib.Core.List.{List, [], ◌∷◌, ◌++◌, append-nil, flat_map}
@@ -15,8 +15,7 @@ use Rattle.port_tables.specs.Tables.{at}
 use Rattle.portgraph.specs.Lookups.{meta_at, is_some, count_in, port_link}
 use Rattle.portgraph.specs.Model as model
 use Rattle.portgraph.specs.Model.{Model, Far, nowhere, to, Slots, live, Valid, slot_of, count_of, first_of, side_start}
-use Rattle.port_tables.specs.NodeWords.{meta_in, slots_in}
-use Rattle.portgraph.specs.LentSteps.{meta_read}
+use Rattle.port_tables.specs.NodeTable.{meta_in}
 use Rattle.portgraph.specs.WfFacts.{link_count_fits, node_count_fits, node_len_fits}
 use Rattle.portgraph.specs.PlaceLaws.{meta_of_node, node_of_meta, link_to, link_none, port_link_to, port_link_none}
 use Rattle.portgraph.specs.GoodSlots.{zero_is_not_one, slot_in_block}
@@ -38,12 +37,6 @@ use Rattle.multiportgraph.specs.TableReadLaws.{far_is, owner_read, mark_told}
 use Rattle.multiportgraph.specs.ScanLaws.{links_from_to, ports_across, range_append, flat_map_append, flat_map_same, flat_map_map, flat_map_flat_map, port_seen_there, side_in_row, links_in_row, links_of_split, links_of_plain}
 use Rattle.multiportgraph.specs.CallSteps.{lower_wf}
 use Rattle.multiportgraph.specs.CountLaws.{visible_nodes_lem, visible_links_lem}
-use Rattle.multiportgraph.specs.MultiLent.{Totals, multi_in}
-use Rattle.multiportgraph.specs.LentGraph.{lent_is}
-use Rattle.multiportgraph.specs.ListSteps.{listed_as}
-use Rattle.portgraph.specs.Lent.{counts_of}
-use Rattle.port_tables.specs.declared.lent.Counts.{Counts}
-use Rattle.port_tables.specs.declared.node_entry.NodeSlot.{NodeSlot}
 use Rattle.multiportgraph.specs.Listed.{end_numbers, wire_numbers, wires_listed, first_port, block_numbers, blocks_listed, list_after, list_answer}
 use Rattle.multiportgraph.specs.ListScans.{end_words, first_of_meta, in_end, far_end, out_end, slot_wire, subport_wire, split_wires, port_wires, place_wires, side_wires, node_wires, table_wires, of_block, port_of_meta, block_words, node_block, table_blocks, AllFit}
 use Rattle.multiportgraph.specs.declared.list_ends.TooShort.{TooShort}
@@ -118,49 +111,46 @@ flat_map_shift f s c =
     ap (flat_map f) (ap (λ (k : ℕ). range k c) (sym q) ∙ sym (map_range (λ i. s + i) s 0 c (λ j l. refl)))
     ∙ flat_map_map f (λ i. s + i) (range 0 c)
 
-module _ (nodes links owners heads : List ℕ) (marks flags : List Bool) (totals : Totals) (w : MultiWf (multi_in nodes links owners heads marks flags totals)) where
-  abbrev graph : MultiPortGraph
-  graph = multi_in nodes links owners heads marks flags totals
-
+module _ (graph : MultiPortGraph) (w : MultiWf graph) where
   abbrev M : Model
   M = w.model
 
-  meta_there : (n : ℕ) → meta_in nodes n ≡ meta_at graph.graph n
-  meta_there n = meta_read nodes links owners heads totals.counts n w.fine.holds.nodes_long
+  meta_there : (n : ℕ) → meta_in graph.graph.node_meta n ≡ meta_at graph.graph n
+  meta_there n = refl
 
-  meta_live : (n : ℕ) (k : NodeMeta) → M.node n ≡ live k → meta_in nodes n ≡ Some k
+  meta_live : (n : ℕ) (k : NodeMeta) → M.node n ≡ live k → meta_in graph.graph.node_meta n ≡ Some k
   meta_live n k e = meta_there n ∙ meta_of_node w.fine.good w.fine.holds n k e
 
-  live_meta : (n : ℕ) (k : NodeMeta) → meta_in nodes n ≡ Some k → M.node n ≡ live k
+  live_meta : (n : ℕ) (k : NodeMeta) → meta_in graph.graph.node_meta n ≡ Some k → M.node n ≡ live k
   live_meta n k e = node_of_meta w.fine.good w.fine.holds n k (sym (meta_there n) ∙ e)
 
-  flag_told : (n : ℕ) → flag_at flags node_slots n ≡ is_hidden graph n
+  flag_told : (n : ℕ) → flag_at graph.copy_node node_slots n ≡ is_hidden graph n
   unfolding is_hidden
-  flag_told n = flag_is flags node_slots n w.fine.flags_long
+  flag_told n = flag_is graph.copy_node node_slots n w.fine.flags_long
 
   -- Ends.
 
-  owner_in_lem : (z : model.InnerPlace) → Valid M.node z → owner_in owners (slot_of M.node z) ≡ z.node
+  owner_in_lem : (z : model.InnerPlace) → Valid M.node z → owner_in graph.graph.port_meta (slot_of M.node z) ≡ z.node
   unfolding owner_in owner_of
   owner_in_lem z v = owner_of_lem w.fine z v
 
   -- an incoming port's position is counted from its node's first port
-  position_in : (z : model.InnerPlace) → Valid M.node z → z.side ≡ Incoming → slot_of M.node z - first_of_meta (meta_in nodes z.node) ≡ z.pos
+  position_in : (z : model.InnerPlace) → Valid M.node z → z.side ≡ Incoming → slot_of M.node z - first_of_meta (meta_in graph.graph.node_meta z.node) ≡ z.pos
   position_in z v s =
       let r = slot_in_block w.fine.good z v in
       let a : first_of (M.node z.node) ≡ r.0.first_port.0 = ap first_of r.1 in
-      let b : first_of_meta (meta_in nodes z.node) ≡ r.0.first_port.0 = ap first_of_meta (meta_live z.node r.0 r.1) in
+      let b : first_of_meta (meta_in graph.graph.node_meta z.node) ≡ r.0.first_port.0 = ap first_of_meta (meta_live z.node r.0 r.1) in
       let c : side_start (M.node z.node) z.side ≡ 0 = ap (side_start (M.node z.node)) s in
       omega arith
 
-  in_end_is : (z : model.InnerPlace) (o : ℕ) → Valid M.node z → z.side ≡ Incoming → end_words (in_end nodes owners (slot_of M.node z) o) ≡ end_numbers graph (subport# (slot_of M.node z) o)
+  in_end_is : (z : model.InnerPlace) (o : ℕ) → Valid M.node z → z.side ≡ Incoming → end_words (in_end graph.graph.node_meta graph.graph.port_meta (slot_of M.node z) o) ≡ end_numbers graph (subport# (slot_of M.node z) o)
   unfolding in_end end_numbers place_of
   in_end_is z o v s =
       let a = owner_in_lem z v in
       let b = owner_of_lem w.fine z v in
-      let n : owner_in owners (slot_of M.node z) ≡ owner_of graph.graph (slot_of M.node z) = a ∙ sym b in
-      let q : slot_of M.node z - first_of_meta (meta_in nodes (owner_in owners (slot_of M.node z))) ≡ position_of graph.graph (slot_of M.node z) =
-      ap (λ (x : ℕ). slot_of M.node z - first_of_meta (meta_in nodes x)) a ∙ (position_in z v s ∙ sym (position_of_lem w.fine z v)) in
+      let n : owner_in graph.graph.port_meta (slot_of M.node z) ≡ owner_of graph.graph (slot_of M.node z) = a ∙ sym b in
+      let q : slot_of M.node z - first_of_meta (meta_in graph.graph.node_meta (owner_in graph.graph.port_meta (slot_of M.node z))) ≡ position_of graph.graph (slot_of M.node z) =
+      ap (λ (x : ℕ). slot_of M.node z - first_of_meta (meta_in graph.graph.node_meta x)) a ∙ (position_in z v s ∙ sym (position_of_lem w.fine z v)) in
       λ i. slot_of M.node z ∷ o ∷ n i ∷ q i ∷ []
 
   incoming_reversed : (d : Direction) → Incoming ≡ reversed d → d ≡ Outgoing
@@ -168,29 +158,29 @@ module _ (nodes links owners heads : List ℕ) (marks flags : List Bool) (totals
   incoming_reversed Outgoing e = refl
 
   -- the incoming end of a wire: by its inner port, or by the main port of its hidden node
-  far_end_is : (y : model.InnerPlace) → IsEnd graph M y → y.side ≡ Incoming → end_words (far_end nodes links owners flags (slot_of M.node y)) ≡ end_numbers graph (subport_of graph (slot_of M.node y))
+  far_end_is : (y : model.InnerPlace) → IsEnd graph M y → y.side ≡ Incoming → end_words (far_end graph.graph.node_meta graph.graph.port_link graph.graph.port_meta graph.copy_node (slot_of M.node y)) ≡ end_numbers graph (subport_of graph (slot_of M.node y))
   unfolding far_end
   far_end_is y e s = go (is_hidden graph y.node) refl
     where
-      told : (b : Bool) → is_hidden graph y.node ≡ b → flag_at flags node_slots (owner_in owners (slot_of M.node y)) ≡ b
-      told b h = ap (flag_at flags node_slots) (owner_in_lem y e.valid) ∙ (flag_told y.node ∙ h)
+      told : (b : Bool) → is_hidden graph y.node ≡ b → flag_at graph.copy_node node_slots (owner_in graph.graph.port_meta (slot_of M.node y)) ≡ b
+      told b h = ap (flag_at graph.copy_node node_slots) (owner_in_lem y e.valid) ∙ (flag_told y.node ∙ h)
 
-      go : (b : Bool) → is_hidden graph y.node ≡ b → end_words (far_end nodes links owners flags (slot_of M.node y)) ≡ end_numbers graph (subport_of graph (slot_of M.node y))
+      go : (b : Bool) → is_hidden graph y.node ≡ b → end_words (far_end graph.graph.node_meta graph.graph.port_link graph.graph.port_meta graph.copy_node (slot_of M.node y)) ≡ end_numbers graph (subport_of graph (slot_of M.node y))
       go false h = rw (told false h) (in_end_is y 0 e.valid s ∙ ap (end_numbers graph) (sym (subport_of_block w.fine y (e.valid, h))))
       go true h =
           let k = w.fine.copy y.node h in
           let c : copy_side graph y.node ≡ Outgoing = incoming_reversed (copy_side graph y.node) (sym s ∙ end_side w.fine y e h) in
-          let x : meta_in nodes (owner_in owners (slot_of M.node y)) ≡ Some k.meta = ap (meta_in nodes) (owner_in_lem y e.valid) ∙ meta_live y.node k.meta k.here in
+          let x : meta_in graph.graph.node_meta (owner_in graph.graph.port_meta (slot_of M.node y)) ≡ Some k.meta = ap (meta_in graph.graph.node_meta) (owner_in_lem y e.valid) ∙ meta_live y.node k.meta k.here in
           let f : first_of (M.node y.node) ≡ k.meta.first_port.0 = ap first_of k.here in
           let i : count_of (M.node y.node) Incoming ≡ k.meta.incoming = ap (λ (v : Slots). count_of v Incoming) k.here in
           let z : side_start (M.node y.node) y.side ≡ 0 = ap (side_start (M.node y.node)) s in
           let d : side_start (M.node y.node) (copy_side graph y.node) ≡ count_of (M.node y.node) Incoming = ap (side_start (M.node y.node)) c in
           let t : k.meta.first_port.0 + k.meta.incoming ≡ slot_of M.node (copy_place graph y.node) = omega arith in
-          let q : far_in links (k.meta.first_port.0 + k.meta.incoming) ≡ slot_of M.node k.main = ap (far_in links) t ∙ far_is w.fine (copy_place graph y.node) k.main k.joined in
+          let q : far_in graph.graph.port_link (k.meta.first_port.0 + k.meta.incoming) ≡ slot_of M.node k.main = ap (far_in graph.graph.port_link) t ∙ far_is w.fine (copy_place graph y.node) k.main k.joined in
           let o : slot_of M.node y - k.meta.first_port.0 ≡ y.pos = omega arith in
           let r : k.main.side ≡ Incoming = main_side w.fine y.node k.main k.joined ∙ ap reversed c in
           rw (told true h, x)
-          ((λ j. end_words (in_end nodes owners (q j) (o j)))
+          ((λ j. end_words (in_end graph.graph.node_meta graph.graph.port_meta (q j) (o j)))
           ∙ (in_end_is k.main y.pos (main_seen w.fine y.node k.main h k.joined).0 r
           ∙ ap (end_numbers graph) (sym (subport_of_hidden w.fine y k.main e.valid h k.joined))))
 
@@ -214,7 +204,7 @@ module _ (nodes links owners heads : List ℕ) (marks flags : List Bool) (totals
 
   -- the wire at an end of an outgoing port
   slot_wire_is : (p n i o s : ℕ) → seen graph p ≡ visible n Outgoing → position_of graph.graph p ≡ i → end_at graph p Outgoing o ≡ inner s
-      → slot_wire nodes links owners flags (out_end p o n i) s ≡ flat_map (wire_numbers graph) (wire_of graph Outgoing (subport# p o))
+      → slot_wire graph.graph.node_meta graph.graph.port_link graph.graph.port_meta graph.copy_node (out_end p o n i) s ≡ flat_map (wire_numbers graph) (wire_of graph Outgoing (subport# p o))
   unfolding slot_wire
   slot_wire_is p n i o s see pos e = go (M.join end.end) refl
     where
@@ -227,20 +217,20 @@ module _ (nodes links owners heads : List ℕ) (marks flags : List Bool) (totals
       from : end_words (out_end p o n i) ≡ end_numbers graph (subport# p o)
       from = outgoing_end p n i o (ap (owner_of graph.graph) (sym block.slot) ∙ (owner_of_lem w.fine block.place block.is_seen.0 ∙ block.node)) pos
 
-      go : (y : Far) → M.join end.end ≡ y → slot_wire nodes links owners flags (out_end p o n i) s ≡ flat_map (wire_numbers graph) (wire_of graph Outgoing (subport# p o))
+      go : (y : Far) → M.join end.end ≡ y → slot_wire graph.graph.node_meta graph.graph.port_link graph.graph.port_meta graph.copy_node (out_end p o n i) s ≡ flat_map (wire_numbers graph) (wire_of graph Outgoing (subport# p o))
       go nowhere j =
-          let z : at links s ≡ 0 = ap (at links) (sym end.slot) ∙ link_none w.fine.good w.fine.holds end.end end.is_end.valid j in
+          let z : at graph.graph.port_link s ≡ 0 = ap (at graph.graph.port_link) (sym end.slot) ∙ link_none w.fine.good w.fine.holds end.end end.is_end.valid j in
           let l : port_link graph.graph s ≡ Ok None = ap (port_link graph.graph) (sym end.slot) ∙ port_link_none w.fine.good w.fine.holds end.end end.is_end.valid j in
-          rw (eq-eqb (at links s) 0 z)
+          rw (eq-eqb (at graph.graph.port_link s) 0 z)
           (sym (ap (flat_map (wire_numbers graph)) (wire_by_end p o s e ∙ ap (λ (x : Result (Option PortIndex) NoSuchPort). wire_to (subport# p o) (far_subport graph x)) l) ∙ no_wire))
       go (to y) j =
-          let z : at links s ≡ suc (slot_of M.node y) = ap (at links) (sym end.slot) ∙ link_to w.fine.good w.fine.holds end.end y end.is_end.valid j in
+          let z : at graph.graph.port_link s ≡ suc (slot_of M.node y) = ap (at graph.graph.port_link) (sym end.slot) ∙ link_to w.fine.good w.fine.holds end.end y end.is_end.valid j in
           let l : port_link graph.graph s ≡ Ok (Some (port# (slot_of M.node y))) = ap (port_link graph.graph) (sym end.slot) ∙ port_link_to w.fine.good w.fine.holds end.end y end.is_end.valid j in
-          let q : far_in links s ≡ slot_of M.node y = ap (far_in links) (sym end.slot) ∙ far_is w.fine end.end y j in
+          let q : far_in graph.graph.port_link s ≡ slot_of M.node y = ap (far_in graph.graph.port_link) (sym end.slot) ∙ far_is w.fine end.end y j in
           let d : y.side ≡ Incoming = other_side end.end.side y.side (w.fine.good.join_sides end.end y j) ∙ ap reversed (end.side ∙ block.side) in
-          let t : end_words (far_end nodes links owners flags (far_in links s)) ≡ end_numbers graph (subport_of graph (slot_of M.node y)) =
-          ap (λ (x : ℕ). end_words (far_end nodes links owners flags x)) q ∙ far_end_is y (ends_join_ends w.fine end.end y end.is_end j) d in
-          rw (ne_eqb (at links s) 0 (λ h. omega arith))
+          let t : end_words (far_end graph.graph.node_meta graph.graph.port_link graph.graph.port_meta graph.copy_node (far_in graph.graph.port_link s)) ≡ end_numbers graph (subport_of graph (slot_of M.node y)) =
+          ap (λ (x : ℕ). end_words (far_end graph.graph.node_meta graph.graph.port_link graph.graph.port_meta graph.copy_node x)) q ∙ far_end_is y (ends_join_ends w.fine end.end y end.is_end j) d in
+          rw (ne_eqb (at graph.graph.port_link s) 0 (λ h. omega arith))
           ((λ x. from x ++ t x)
           ∙ (sym (one_wire (subport# p o) (subport_of graph (slot_of M.node y)) (standing_of graph (slot_of M.node y)))
           ∙ ap (flat_map (wire_numbers graph)) (sym (wire_by_end p o s e ∙ ap (λ (x : Result (Option PortIndex) NoSuchPort). wire_to (subport# p o) (far_subport graph x)) l))))
@@ -278,9 +268,9 @@ module _ (nodes links owners heads : List ℕ) (marks flags : List Bool) (totals
       unfolding copy
       copy_here = (w.fine.copy hang.copy hang.is_copy).here
 
-      copy_meta : meta_in nodes (owner_in owners (far_in links port)) ≡ Some copy
+      copy_meta : meta_in graph.graph.node_meta (owner_in graph.graph.port_meta (far_in graph.graph.port_link port)) ≡ Some copy
       copy_meta =
-          ap (meta_in nodes) (owner_read w.fine port n Outgoing see t ∙ (ap (copy_node graph) (sym block.slot) ∙ hang.copy_is))
+          ap (meta_in graph.graph.node_meta) (owner_read w.fine port n Outgoing see t ∙ (ap (copy_node graph) (sym block.slot) ∙ hang.copy_is))
           ∙ meta_live hang.copy copy copy_here
 
       copy_ports : count_of (M.node hang.copy) block.place.side ≡ copy.outgoing
@@ -301,55 +291,55 @@ module _ (nodes links owners heads : List ℕ) (marks flags : List Bool) (totals
       unfolding end_at
       split_end o l = let c = copy_subports in rw (t, lt-ltb o (subports graph port Outgoing) (omega arith)) (ap inner (subport_slot o l))
 
-      split_wires_are : split_wires nodes links owners flags port n i copy ≡ flat_map (wire_numbers graph) (port_links graph port)
+      split_wires_are : split_wires graph.graph.node_meta graph.graph.port_link graph.graph.port_meta graph.copy_node port n i copy ≡ flat_map (wire_numbers graph) (port_links graph port)
       unfolding split_wires subport_wire
       split_wires_are =
-          flat_map_same (subport_wire nodes links owners flags port n i (copy.first_port.0 + copy.incoming)) (λ o. flat_map (wire_numbers graph) (wire_of graph Outgoing (subport# port o))) (range 0 copy.outgoing)
+          flat_map_same (subport_wire graph.graph.node_meta graph.graph.port_link graph.graph.port_meta graph.copy_node port n i (copy.first_port.0 + copy.incoming)) (λ o. flat_map (wire_numbers graph) (wire_of graph Outgoing (subport# port o))) (range 0 copy.outgoing)
           (λ o j. let r = member_range o 0 copy.outgoing j in slot_wire_is port n i o (copy.first_port.0 + copy.incoming + o) see position (split_end o (omega arith)))
           ∙ (sym (flat_map_flat_map (wire_numbers graph) (λ o. wire_of graph Outgoing (subport# port o)) (range 0 copy.outgoing))
           ∙ ap (flat_map (wire_numbers graph))
           (ap (λ (c : ℕ). flat_map (λ o. wire_of graph Outgoing (subport# port o)) (range 0 c)) (sym copy_subports) ∙ sym (links_of_split graph port n Outgoing see t)))
 
-    place_wires_are : place_wires nodes links owners marks flags n (k.first_port.0 + k.incoming) i ≡ flat_map (wire_numbers graph) (port_links graph port)
+    place_wires_are : place_wires graph.graph.node_meta graph.graph.port_link graph.graph.port_meta graph.multiport graph.copy_node n (k.first_port.0 + k.incoming) i ≡ flat_map (wire_numbers graph) (port_links graph port)
     unfolding place_wires port_wires
     place_wires_are = go (is_split graph port) refl
       where
-        go : (b : Bool) → is_split graph port ≡ b → place_wires nodes links owners marks flags n (k.first_port.0 + k.incoming) i ≡ flat_map (wire_numbers graph) (port_links graph port)
+        go : (b : Bool) → is_split graph port ≡ b → place_wires graph.graph.node_meta graph.graph.port_link graph.graph.port_meta graph.multiport graph.copy_node n (k.first_port.0 + k.incoming) i ≡ flat_map (wire_numbers graph) (port_links graph port)
         go true t = rw (mark_told w.fine port ∙ t, copy_meta t) (split_wires_are t)
         go false t =
             rw (mark_told w.fine port ∙ t)
             (slot_wire_is port n i 0 port see position (plain_end t) ∙ ap (flat_map (wire_numbers graph)) (sym (links_of_plain graph port n Outgoing see t)))
 
   -- of a block
-  side_wires_are : (n : ℕ) (k : NodeMeta) → is_hidden graph n ≡ false → meta_at graph.graph n ≡ Some k → side_wires nodes links owners marks flags n k ≡ flat_map (wire_numbers graph) (side_links graph Outgoing n)
+  side_wires_are : (n : ℕ) (k : NodeMeta) → is_hidden graph n ≡ false → meta_at graph.graph n ≡ Some k → side_wires graph.graph.node_meta graph.graph.port_link graph.graph.port_meta graph.multiport graph.copy_node n k ≡ flat_map (wire_numbers graph) (side_links graph Outgoing n)
   unfolding side_wires links_from_to
   side_wires_are n k h e =
       let c : k.outgoing ≡ ports_across k (One Outgoing) = omega arith in
-      flat_map_same (place_wires nodes links owners marks flags n (k.first_port.0 + k.incoming)) (λ i. flat_map (wire_numbers graph) (port_links graph (k.first_port.0 + k.incoming + i))) (range 0 k.outgoing)
+      flat_map_same (place_wires graph.graph.node_meta graph.graph.port_link graph.graph.port_meta graph.multiport graph.copy_node n (k.first_port.0 + k.incoming)) (λ i. flat_map (wire_numbers graph) (port_links graph (k.first_port.0 + k.incoming + i))) (range 0 k.outgoing)
       (λ i j. let r = member_range i 0 k.outgoing j in place_wires_are n k h e i (omega arith))
       ∙ (sym (flat_map_shift (λ p. flat_map (wire_numbers graph) (port_links graph p)) (k.first_port.0 + k.incoming) k.outgoing)
       ∙ (sym (flat_map_flat_map (wire_numbers graph) (port_links graph) (range (k.first_port.0 + k.incoming) k.outgoing))
       ∙ ap (flat_map (wire_numbers graph)) (ap (λ (x : ℕ). flat_map (port_links graph) (range (k.first_port.0 + k.incoming) x)) c ∙ sym (links_in_row w n k h e (One Outgoing)))))
 
   -- beyond the used part of the node table there is no node
-  no_node : (n : ℕ) → totals.counts.node_len ≤ n → meta_in nodes n ≡ None
-  no_node n l = go (meta_in nodes n) refl
+  no_node : (n : ℕ) → graph.graph.node_len ≤ n → meta_in graph.graph.node_meta n ≡ None
+  no_node n l = go (meta_in graph.graph.node_meta n) refl
     where
-      go : (x : Option NodeMeta) → meta_in nodes n ≡ x → x ≡ None
+      go : (x : Option NodeMeta) → meta_in graph.graph.node_meta n ≡ x → x ≡ None
       go None e = refl
       go (Some k) e =
           let a = w.fine.good.node_used n k (live_meta n k e) in
           let b = w.fine.holds.node_len in
           absurd (omega arith)
 
-  pub len_fits : totals.counts.node_len ≤ node_slots
+  pub len_fits : graph.graph.node_len ≤ node_slots
   len_fits = node_len_fits graph.graph (lower_wf graph w)
 
   -- what is gathered over the used node slots is gathered over all
-  flat_map_used : (f : ℕ → List ℕ) → ((n : ℕ) → meta_in nodes n ≡ None → f n ≡ []) → flat_map f (range 0 totals.counts.node_len) ≡ flat_map f (range 0 node_slots)
+  flat_map_used : (f : ℕ → List ℕ) → ((n : ℕ) → meta_in graph.graph.node_meta n ≡ None → f n ≡ []) → flat_map f (range 0 graph.graph.node_len) ≡ flat_map f (range 0 node_slots)
   flat_map_used f h =
       let u = len_fits in
-      let len = totals.counts.node_len in
+      let len = graph.graph.node_len in
       sym (ap (flat_map f) (range_append 0 len (node_slots - len) node_slots (omega arith))
       ∙ (flat_map_append f (range 0 len) (range (0 + len) (node_slots - len))
       ∙ (ap (λ (r : List ℕ). flat_map f (range 0 len) ++ r) (flat_map_none f (range (0 + len) (node_slots - len)) (λ n i. let r = member_range n (0 + len) (node_slots - len) i in h n (no_node n (omega arith))))
@@ -357,7 +347,7 @@ module _ (nodes links owners heads : List ℕ) (marks flags : List Bool) (totals
 
   -- What a pass over the node slots gathers: what f gives for a block's meta data, where that is what g gives for the block.
   module _ (f : ℕ → NodeMeta → List ℕ) (g : ℕ → List ℕ) (same : (n : ℕ) (k : NodeMeta) → is_hidden graph n ≡ false → meta_at graph.graph n ≡ Some k → f n k ≡ g n) where
-    slot_gives : (n : ℕ) → of_block (f n) (flag_at flags node_slots n) (meta_in nodes n) ≡ cond (is_block graph n) (g n) []
+    slot_gives : (n : ℕ) → of_block (f n) (flag_at graph.copy_node node_slots n) (meta_in graph.graph.node_meta n) ≡ cond (is_block graph n) (g n) []
     unfolding is_block
     slot_gives n = (λ i. of_block (f n) (flag_told n i) (meta_there n i)) ∙ go (is_hidden graph n) refl (meta_at graph.graph n) refl
       where
@@ -367,23 +357,23 @@ module _ (nodes links owners heads : List ℕ) (marks flags : List Bool) (totals
         go false h None e = refl
         go false h (Some k) e = same n k h e
 
-    blocks_give : flat_map (λ n. of_block (f n) (flag_at flags node_slots n) (meta_in nodes n)) (range 0 totals.counts.node_len) ≡ flat_map g (blocks graph)
+    blocks_give : flat_map (λ n. of_block (f n) (flag_at graph.copy_node node_slots n) (meta_in graph.graph.node_meta n)) (range 0 graph.graph.node_len) ≡ flat_map g (blocks graph)
     unfolding blocks
     blocks_give =
-        flat_map_used (λ n. of_block (f n) (flag_at flags node_slots n) (meta_in nodes n)) (λ n e. ap (of_block (f n) (flag_at flags node_slots n)) e)
-        ∙ (flat_map_same (λ n. of_block (f n) (flag_at flags node_slots n) (meta_in nodes n)) (λ n. cond (is_block graph n) (g n) []) (range 0 node_slots) (λ n i. slot_gives n)
+        flat_map_used (λ n. of_block (f n) (flag_at graph.copy_node node_slots n) (meta_in graph.graph.node_meta n)) (λ n e. ap (of_block (f n) (flag_at graph.copy_node node_slots n)) e)
+        ∙ (flat_map_same (λ n. of_block (f n) (flag_at graph.copy_node node_slots n) (meta_in graph.graph.node_meta n)) (λ n. cond (is_block graph n) (g n) []) (range 0 node_slots) (λ n i. slot_gives n)
         ∙ sym (flat_map_filter g (is_block graph) (range 0 node_slots)))
 
   -- all wires
-  pub wires_listed_lem : table_wires nodes links owners marks flags totals.counts.node_len ≡ wires_listed graph
+  pub wires_listed_lem : table_wires graph.graph.node_meta graph.graph.port_link graph.graph.port_meta graph.multiport graph.copy_node graph.graph.node_len ≡ wires_listed graph
   unfolding table_wires node_wires wires_listed all_wires
   wires_listed_lem =
-      blocks_give (side_wires nodes links owners marks flags) (λ n. flat_map (wire_numbers graph) (side_links graph Outgoing n)) side_wires_are
+      blocks_give (side_wires graph.graph.node_meta graph.graph.port_link graph.graph.port_meta graph.multiport graph.copy_node) (λ n. flat_map (wire_numbers graph) (side_links graph Outgoing n)) side_wires_are
       ∙ sym (flat_map_flat_map (wire_numbers graph) (side_links graph Outgoing) (blocks graph))
 
   -- What the pass presumes.
 
-  pub all_fit : AllFit nodes
+  pub all_fit : AllFit graph.graph.node_meta
   all_fit n k e =
       let l = live_meta n k e in
       let a = w.fine.good.block_ends n k l in
@@ -391,11 +381,12 @@ module _ (nodes links owners heads : List ℕ) (marks flags : List Bool) (totals
       record { ends = omega arith; ports = w.fine.good.ports_in_block n k l; small = w.fine.good.block_small n k l }
 
   -- the number of wires, and that of their numbers
-  pub wires_counted : (count : ℕ) → count ≡ totals.counts.link_count - totals.copies → count ≡ length (all_wires graph)
+  pub wires_counted : (count : ℕ) → count ≡ visible_links graph → count ≡ length (all_wires graph)
   unfolding visible_links
   wires_counted count e = e ∙ visible_links_lem w.fine
 
-  pub few_wires : totals.counts.link_count - totals.copies ≤ node_slots * node_ports
+  pub few_wires : visible_links graph ≤ node_slots * node_ports
+  unfolding visible_links
   few_wires = let h = link_count_fits graph.graph (lower_wf graph w) in omega arith
 
   -- Blocks.
@@ -416,86 +407,45 @@ module _ (nodes links owners heads : List ℕ) (marks flags : List Bool) (totals
       λ i. n ∷ count_in (sym e i) Incoming ∷ count_in (sym e i) Outgoing ∷ f i ∷ []
 
   -- all blocks
-  pub blocks_listed_lem : table_blocks nodes flags totals.counts.node_len ≡ blocks_listed graph
+  pub blocks_listed_lem : table_blocks graph.graph.node_meta graph.copy_node graph.graph.node_len ≡ blocks_listed graph
   unfolding table_blocks node_block blocks_listed
   blocks_listed_lem = blocks_give block_words (block_numbers graph) block_words_are
 
   -- their number, and that of their numbers
-  pub blocks_counted : (count : ℕ) → count ≡ totals.counts.node_count - totals.copies → count ≡ length (blocks graph)
+  pub blocks_counted : (count : ℕ) → count ≡ visible_nodes graph → count ≡ length (blocks graph)
   unfolding visible_nodes
   blocks_counted count e = e ∙ visible_nodes_lem w.fine
 
-  pub few_blocks : totals.counts.node_count - totals.copies ≤ node_slots
+  pub few_blocks : visible_nodes graph ≤ node_slots
+  unfolding visible_nodes
   few_blocks = let h = node_count_fits graph.graph (lower_wf graph w) in omega arith
 
   -- What a listing of so many presumes, and what it tells.
 
-  pub wires_list_fits : {count : ℕ} → count ≡ totals.counts.link_count - totals.copies
-      → AllFit nodes × (totals.counts.node_len ≤ node_slots) × (8 * count ≡ length (table_wires nodes links owners marks flags totals.counts.node_len)) × (count ≤ node_slots * node_ports)
+  pub wires_list_fits : {count : ℕ} → count ≡ visible_links graph
+      → AllFit graph.graph.node_meta × (graph.graph.node_len ≤ node_slots) × (8 * count ≡ length (table_wires graph.graph.node_meta graph.graph.port_link graph.graph.port_meta graph.multiport graph.copy_node graph.graph.node_len)) × (count ≤ node_slots * node_ports)
   wires_list_fits {count} e =
       let few = few_wires in
       (all_fit, len_fits, ap (λ (n : ℕ). 8 * n) (wires_counted count e) ∙ (sym (wires_length graph) ∙ sym (ap length wires_listed_lem)), omega (arith, few, e))
 
-  pub wires_list_told : {count : ℕ} {r : Result ℕ TooShort} (l : List ℕ) {l' : List ℕ} → count ≡ totals.counts.link_count - totals.copies
-      → (r ≡ list_answer count (table_wires nodes links owners marks flags totals.counts.node_len) l) × (l' ≡ list_after (table_wires nodes links owners marks flags totals.counts.node_len) l)
+  pub wires_list_told : {count : ℕ} {r : Result ℕ TooShort} (l : List ℕ) {l' : List ℕ} → count ≡ visible_links graph
+      → (r ≡ list_answer count (table_wires graph.graph.node_meta graph.graph.port_link graph.graph.port_meta graph.multiport graph.copy_node graph.graph.node_len) l) × (l' ≡ list_after (table_wires graph.graph.node_meta graph.graph.port_link graph.graph.port_meta graph.multiport graph.copy_node graph.graph.node_len) l)
       → (r ≡ list_answer (length (all_wires graph)) (wires_listed graph) l) × (l' ≡ list_after (wires_listed graph) l)
   wires_list_told {count} l e x =
       let n = wires_counted count e in
       let t = wires_listed_lem in
       (x.0 ∙ (λ i. list_answer (n i) (t i) l), x.1 ∙ ap (λ (w : List ℕ). list_after w l) t)
 
-  pub blocks_list_fits : {count : ℕ} → count ≡ totals.counts.node_count - totals.copies
-      → (totals.counts.node_len ≤ node_slots) × (4 * count ≡ length (table_blocks nodes flags totals.counts.node_len)) × (count ≤ node_slots)
+  pub blocks_list_fits : {count : ℕ} → count ≡ visible_nodes graph
+      → (graph.graph.node_len ≤ node_slots) × (4 * count ≡ length (table_blocks graph.graph.node_meta graph.copy_node graph.graph.node_len)) × (count ≤ node_slots)
   blocks_list_fits {count} e =
       let few = few_blocks in
       (len_fits, ap (λ (n : ℕ). 4 * n) (blocks_counted count e) ∙ (sym (blocks_length graph) ∙ sym (ap length blocks_listed_lem)), omega (arith, few, e))
 
-  pub blocks_list_told : {count : ℕ} {r : Result ℕ TooShort} (l : List ℕ) {l' : List ℕ} → count ≡ totals.counts.node_count - totals.copies
-      → (r ≡ list_answer count (table_blocks nodes flags totals.counts.node_len) l) × (l' ≡ list_after (table_blocks nodes flags totals.counts.node_len) l)
+  pub blocks_list_told : {count : ℕ} {r : Result ℕ TooShort} (l : List ℕ) {l' : List ℕ} → count ≡ visible_nodes graph
+      → (r ≡ list_answer count (table_blocks graph.graph.node_meta graph.copy_node graph.graph.node_len) l) × (l' ≡ list_after (table_blocks graph.graph.node_meta graph.copy_node graph.graph.node_len) l)
       → (r ≡ list_answer (length (blocks graph)) (blocks_listed graph) l) × (l' ≡ list_after (blocks_listed graph) l)
   blocks_list_told {count} l e x =
       let n = blocks_counted count e in
       let t = blocks_listed_lem in
       (x.0 ∙ (λ i. list_answer (n i) (t i) l), x.1 ∙ ap (λ (w : List ℕ). list_after w l) t)
-
--- The same of a graph by value, whose node table is stored as numbers.
-module _ (m : MultiPortGraph) (w : MultiWf m) (nodes : List ℕ) {slots : List NodeSlot} {counts : Counts} (a : slots_in nodes ≡ slots) (b : slots ≡ m.graph.node_meta) (c : counts ≡ counts_of m.graph) where
-  abbrev beside : Totals
-  beside = record { counts = counts; copies = m.copy_node_count; subs = m.subport_count; release = m.release }
-
-  is_graph : multi_in nodes m.graph.port_link m.graph.port_meta m.graph.port_free m.multiport m.copy_node beside ≡ m
-  is_graph = lent_is m nodes a b refl c
-
-  holds : MultiWf (multi_in nodes m.graph.port_link m.graph.port_meta m.graph.port_free m.multiport m.copy_node beside)
-  holds = subst MultiWf (sym is_graph) w
-
-  links_counted : {count : ℕ} → count ≡ visible_links m → count ≡ counts.link_count - m.copy_node_count
-  unfolding visible_links
-  links_counted e = e ∙ sym (ap (λ (k : Counts). k.link_count - m.copy_node_count) c)
-
-  nodes_counted : {count : ℕ} → count ≡ visible_nodes m → count ≡ counts.node_count - m.copy_node_count
-  unfolding visible_nodes
-  nodes_counted e = e ∙ sym (ap (λ (k : Counts). k.node_count - m.copy_node_count) c)
-
-  pub wires_fit_by_value : {count : ℕ} → count ≡ visible_links m
-      → AllFit nodes × (counts.node_len ≤ node_slots) × (8 * count ≡ length (table_wires nodes m.graph.port_link m.graph.port_meta m.multiport m.copy_node counts.node_len)) × (count ≤ node_slots * node_ports)
-  wires_fit_by_value e = wires_list_fits nodes m.graph.port_link m.graph.port_meta m.graph.port_free m.multiport m.copy_node beside holds (links_counted e)
-
-  pub wires_told_by_value : {count : ℕ} {r : Result ℕ TooShort} (l : List ℕ) {l' : List ℕ} → count ≡ visible_links m
-      → (r ≡ list_answer count (table_wires nodes m.graph.port_link m.graph.port_meta m.multiport m.copy_node counts.node_len) l)
-      × (l' ≡ list_after (table_wires nodes m.graph.port_link m.graph.port_meta m.multiport m.copy_node counts.node_len) l)
-      → (r ≡ list_answer (length (all_wires m)) (wires_listed m) l) × (l' ≡ list_after (wires_listed m) l)
-  wires_told_by_value l e x =
-      listed_as (λ m. length (all_wires m)) wires_listed l is_graph
-      (wires_list_told nodes m.graph.port_link m.graph.port_meta m.graph.port_free m.multiport m.copy_node beside holds l (links_counted e) x)
-
-  pub blocks_fit_by_value : {count : ℕ} → count ≡ visible_nodes m
-      → (counts.node_len ≤ node_slots) × (4 * count ≡ length (table_blocks nodes m.copy_node counts.node_len)) × (count ≤ node_slots)
-  blocks_fit_by_value e = blocks_list_fits nodes m.graph.port_link m.graph.port_meta m.graph.port_free m.multiport m.copy_node beside holds (nodes_counted e)
-
-  pub blocks_told_by_value : {count : ℕ} {r : Result ℕ TooShort} (l : List ℕ) {l' : List ℕ} → count ≡ visible_nodes m
-      → (r ≡ list_answer count (table_blocks nodes m.copy_node counts.node_len) l) × (l' ≡ list_after (table_blocks nodes m.copy_node counts.node_len) l)
-      → (r ≡ list_answer (length (blocks m)) (blocks_listed m) l) × (l' ≡ list_after (blocks_listed m) l)
-  blocks_told_by_value l e x =
-      listed_as (λ m. length (blocks m)) blocks_listed l is_graph
-      (blocks_list_told nodes m.graph.port_link m.graph.port_meta m.graph.port_free m.multiport m.copy_node beside holds l (nodes_counted e) x)

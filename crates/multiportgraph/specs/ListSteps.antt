@@ -1,6 +1,5 @@
 -- Steps of the passes that list wires and blocks, over plain values.
-use Rattle.multiportgraph.specs.declared.list_ends.TooShort.{TooShort}
-use Rattle.std.specs.Prelude.{◌≡◌, refl, Bool, true, false, ℕ, suc, ◌+◌, ◌-◌, ◌≤◌, ◌<◌, Option, Some, None, Result, Ok, Err}
+use Rattle.std.specs.Prelude.{◌≡◌, refl, Bool, true, false, ℕ, suc, ◌+◌, ◌-◌, ◌≤◌, ◌<◌, Option, Some, None, Ok, Err}
 use Rattle.std.proofs.Common.{sym, ◌∙◌, length-append, append_assoc, append-nil, length-drop, drop_of_length-le}
 use Rattle.std.proofs.Math.Path.{ap}
 use mathlib.Core.List.{List, [], ◌++◌, flat_map}
@@ -16,7 +15,7 @@ use Rattle.port_tables.specs.ResizeLinkSteps.{sets_append}
 use Rattle.port_tables.specs.declared.node_entry.NodeMeta.{NodeMeta}
 use Rattle.multiportgraph.specs.Listed.{list_after, list_answer}
 use Rattle.multiportgraph.specs.ListScans.{of_block, shown_meta, subport_wire, split_wires, place_wires, side_wires, Writing}
-use Rattle.multiportgraph.specs.declared.multiportgraph.MultiPortGraph.{MultiPortGraph}
+use Rattle.port_tables.specs.declared.node_entry.NodeSlot.{NodeSlot}
 
 -- Lists.
 
@@ -126,12 +125,12 @@ module _ (numbers list : List ℕ) (count : ℕ) where
 
 -- Wires.
 
-pub split_is : (nodes links owners : List ℕ) (flags : List Bool) (p n i : ℕ) (k : NodeMeta) (a b count : ℕ) → a ≡ k.first_port.0 → b ≡ k.incoming → count ≡ k.outgoing
+pub split_is : (nodes : List NodeSlot) (links owners : List ℕ) (flags : List Bool) (p n i : ℕ) (k : NodeMeta) (a b count : ℕ) → a ≡ k.first_port.0 → b ≡ k.incoming → count ≡ k.outgoing
     → flat_map (subport_wire nodes links owners flags p n i (a + b)) (range 0 count) ≡ split_wires nodes links owners flags p n i k
 unfolding split_wires
 split_is nodes links owners flags p n i k a b count e f g = λ j. flat_map (subport_wire nodes links owners flags p n i (e j + f j)) (range 0 (g j))
 
-pub side_is : (nodes links owners : List ℕ) (marks flags : List Bool) (n : ℕ) (k : NodeMeta) (a b count : ℕ) → a ≡ k.first_port.0 → b ≡ k.incoming → count ≡ k.outgoing
+pub side_is : (nodes : List NodeSlot) (links owners : List ℕ) (marks flags : List Bool) (n : ℕ) (k : NodeMeta) (a b count : ℕ) → a ≡ k.first_port.0 → b ≡ k.incoming → count ≡ k.outgoing
     → flat_map (place_wires nodes links owners marks flags n (a + b)) (range 0 count) ≡ side_wires nodes links owners marks flags n k
 unfolding side_wires
 side_is nodes links owners marks flags n k a b count e f g = λ j. flat_map (place_wires nodes links owners marks flags n (e j + f j)) (range 0 (g j))
@@ -141,11 +140,6 @@ pub written_as : (l v w : List ℕ) {l' : List ℕ} {r : ℕ} → v ≡ w → (r
 written_as l v w e x = let n = x.0 in let k = ap length e in (omega arith, x.1 ∙ ap (sets l 0) e)
 
 -- Blocks.
-
--- what is listed of a graph is listed of the same graph
-pub listed_as : (count : MultiPortGraph → ℕ) (numbers : MultiPortGraph → List ℕ) (l : List ℕ) {m m' : MultiPortGraph} {l' : List ℕ} {r : Result ℕ TooShort} → m ≡ m'
-    → (r ≡ list_answer (count m) (numbers m) l) × (l' ≡ list_after (numbers m) l) → (r ≡ list_answer (count m') (numbers m') l) × (l' ≡ list_after (numbers m') l)
-listed_as count numbers l e x = (x.0 ∙ (λ i. list_answer (count (e i)) (numbers (e i)) l), x.1 ∙ (λ i. list_after (numbers (e i)) l))
 
 module _ (f : NodeMeta → List ℕ) (h : Bool) (o : Option NodeMeta) where
   pub block_none : None ≡ shown_meta h o → of_block f h o ≡ []

@@ -46,15 +46,6 @@ meta_by true (Some b) k e = let z : ◌≡◌ {A = ℕ} 0 1 = cc in absurd (omeg
 meta_by false (Some b) k e = (cc, refl)
 
 module _ (m : MultiPortGraph) (n : ℕ) where
-  pub block_unknown : None ≡ meta_at m.graph n → Err UnknownNode ≡ block_found m n
-  unfolding block_found
-  block_unknown e = ap (block_in (is_hidden m n)) e
-
-  pub block_flagged : (k : NodeMeta) (q : Bool) → Some k ≡ meta_at m.graph n → is_hidden m n ≡ q
-      → cond q (Err HiddenNode) (Ok k) ≡ block_found m n
-  unfolding block_found
-  block_flagged k q e h = ap (λ x. block_in x (Some k)) (sym h) ∙ ap (block_in (is_hidden m n)) e
-
   -- a start is refused as the block is
   pub start_is : start_of (block_found m n) ≡ start_at_node m n
   unfolding block_found start_at_node

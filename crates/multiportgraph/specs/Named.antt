@@ -2,20 +2,11 @@
 use Rattle.std.specs.Prelude.{ℕ, ◌+◌, ◌-◌, Option, Result, Ok, Err}
 use Rattle.port_tables.specs.Tables.{at, link_both, cut, link_count}
 use Rattle.portgraph.specs.Calls.{with_links}
-use Rattle.port_tables.specs.declared.direction.Direction.{Direction}
-use Rattle.multiportgraph.specs.Reading.{copy_node}
-use Rattle.multi_tables.specs.Forms.{subport#}
-use Rattle.multiportgraph.specs.HiddenNodes as hiding
-use Rattle.multiportgraph.specs.Cases as cases
 use Rattle.multi_tables.specs.TableReads.{wire_in}
 use Rattle.multiportgraph.specs.declared.multiportgraph.MultiPortGraph.{MultiPortGraph}
 use Rattle.multi_tables.specs.declared.answers.SubportIndex.{SubportIndex}
 use Rattle.multiportgraph.specs.declared.multiportgraph.PortUnlinked.{PortUnlinked}
 use Rattle.multiportgraph.specs.declared.multiportgraph.PortsLinked.{PortsLinked}
-use Rattle.multi_tables.specs.declared.named.EndNeed.{EndNeed}
-use Rattle.multi_tables.specs.declared.named.EndNeed.TheVariants as need
-use Rattle.multi_tables.specs.declared.named.LinkNeed.{LinkNeed}
-use Rattle.multi_tables.specs.declared.named.LinkNeed.TheVariants as needs
 use Rattle.multiportgraph.specs.Graph.{with_graph}
 use Rattle.multiportgraph.specs.Cases.{cut_refused, link_refused}
 use Rattle.multi_tables.specs.declared.answers.Refusal.{Refusal}
@@ -41,14 +32,3 @@ cut_named m (Err r) = cut_refused m r
 abbrev pub link_by : MultiPortGraph → SubportIndex → SubportIndex → Result (ℕ × ℕ) Refusal → PortsLinked
 link_by m s t (Ok (x, y)) = record { graph = joined_at m x y; answer = Ok (s, t) }
 link_by m s t (Err r) = link_refused m r
-
-abbrev pub prepared_by : MultiPortGraph → ℕ → Direction → EndNeed → hiding.Prepared
-prepared_by m p d (need.Ready x o) = hiding.ready m x o
-prepared_by m p d need.Grow = hiding.grow m (copy_node m p) d
-prepared_by m p d need.Split = hiding.split m p d
-
-abbrev pub linked_by : MultiPortGraph → ℕ → ℕ → Result LinkNeed Refusal → PortsLinked
-linked_by m a b (Ok (needs.Ends x o y r)) = record { graph = joined_at m x y; answer = Ok (subport# a o, subport# b r) }
-linked_by m a b (Err r) = link_refused m r
-linked_by m a b (Ok (needs.First d)) = cases.link_first m b (hiding.prepare m a d)
-linked_by m a b (Ok (needs.Both d e)) = cases.link_live m a d b e (hiding.prepare m a d)

@@ -1,6 +1,6 @@
--- What is read off lent tables is what an end needs, a preparation does what the need says, and there is room for both ends of a link
+-- What is read off the tables is what an end needs, a preparation does what the need says, and there is room for both ends of a link
 -- exactly if the test of heads and lengths says so.
-use Rattle.std.specs.Prelude.{◌≡◌, Bool, ◌||◌, ℕ, zero, suc, ◌+◌, ◌-◌, ◌≤◌, ◌<◌, ltb, Option, Some}
+use Rattle.std.specs.Prelude.{◌≡◌, Bool, ◌||◌, ℕ, zero, suc, ◌+◌, ◌-◌, ◌≤◌, ◌<◌, ltb, Option, Some, Ok}
 use Rattle.std.proofs.Math.Path.{refl, sym, ap}
 use Rattle.std.proofs.Common.{◌∙◌, subst}
 use Rattle.std.proofs.Math.Bool.{true, false, cond, not}
@@ -21,17 +21,14 @@ use Rattle.portgraph.specs.LookupSteps.{found_block_fits, side_fits}
 use Rattle.portgraph.specs.GoodSlots.{zero_is_not_one, upd_same, upd_other}
 use Rattle.portgraph.specs.Model.{Model, Wf, Holds, Chain, NodeChain, number_of_first, slot_of, count_of}
 use Rattle.portgraph.specs.PlaceLaws.{meta_of_node}
-use Rattle.portgraph.specs.Lent.{graph_in}
-use Rattle.port_tables.specs.NodeWords.{slots_in, slot_in, meta_in}
-use Rattle.portgraph.specs.LentSteps.{slot_read, meta_read}
+use Rattle.portgraph.specs.declared.portgraph.PortGraph.{PortGraph}
+use Rattle.port_tables.specs.NodeTable.{slot_in}
 use Rattle.port_tables.specs.declared.direction.Direction.{Direction}
 use Rattle.port_tables.specs.declared.index.NodeIndex.{NodeIndex}
 use Rattle.port_tables.specs.declared.node_entry.NodeMeta.{NodeMeta}
-use Rattle.port_tables.specs.declared.node_entry.NodeSlot.{NodeSlot}
-use Rattle.port_tables.specs.declared.lent.Counts.{Counts}
 use Rattle.multiportgraph.specs.Reading.{has_link, is_split, copy_node, subports, port_of}
 use Rattle.multiportgraph.specs.HiddenNodes as hiding
-use Rattle.multiportgraph.specs.CodeForms.{prepared_as}
+use Rattle.multiportgraph.specs.CodeForms.{Prepared, prepared_as}
 use Rattle.multi_tables.specs.Forms.{flag_at, lowest_unlinked}
 use Rattle.multiportgraph.specs.Space.{Room, room_of, Work, give_block, block_taken, after_work, after_works, overflows, move_works, split_works, grow_works, reuse_works, prepare_works}
 use Rattle.multiportgraph.specs.SpaceLaws.{overfull, overflows_at_end, after_append, overflows_append, room_is, PreparedSpace, prepare_seen_space}
@@ -42,14 +39,12 @@ use Rattle.multiportgraph.specs.LinkSteps.{others_stay}
 use Rattle.multi_tables.specs.TableReads.{far_in, owner_in}
 use Rattle.multiportgraph.specs.TableReadLaws.{mark_told, owner_read}
 use Rattle.multiportgraph.specs.NamedLaws.{has_link_lem}
-use Rattle.multiportgraph.specs.MultiLent.{Totals, multi_in}
 use Rattle.multiportgraph.specs.Needs.{copy_need, need_of, prepared_for, side_slot, copy_need_in, need_in, GrowsFew, takes_nothing, takes_of, next_free, nodes_left, head_left, ports_left, room_for}
 use Rattle.multiportgraph.specs.declared.multiportgraph.MultiPortGraph.{MultiPortGraph}
 use Rattle.multi_tables.specs.declared.answers.Refusal.TheVariants.{NoRoom}
-use Rattle.multiportgraph.specs.declared.prepare.Prepared.{Prepared}
-use Rattle.multiportgraph.specs.declared.lent.Need.{Need}
-use Rattle.multiportgraph.specs.declared.lent.Need.TheVariants as need
-use Rattle.multiportgraph.specs.declared.lent.Takes.{Takes}
+use Rattle.multiportgraph.specs.declared.needs.Need.{Need}
+use Rattle.multiportgraph.specs.declared.needs.Need.TheVariants as need
+use Rattle.multiportgraph.specs.declared.needs.Takes.{Takes}
 use Rattle.multiportgraph.specs.HiddenNodes.{lowest_free, split, grow, reuse, prepare, prepare_under, reuse_under}
 use Rattle.multiportgraph.specs.Cases.{link_refused, link_second, link_live}
 use Rattle.multiportgraph.specs.Presumed.{OnBlock, LinkedPort, BothOnBlock, GrowPort}
@@ -212,29 +207,29 @@ takes_small u f e = let s = go u f in let q = ap (λ (v : Takes). v.take) e in o
     go (need.Grow c k) f = by k (ltb (k.incoming + k.outgoing + 1) k.capacity) f
     go need.Split f = omega arith
 
--- over lent tables
-module _ (nodes links owners heads : List ℕ) (marks flags : List Bool) (totals : Totals) {p : ℕ} {d : Direction} (b : OnBlock (multi_in nodes links owners heads marks flags totals) p d) where
-  abbrev whole : MultiPortGraph
-  whole = multi_in nodes links owners heads marks flags totals
+-- read off the tables
+module _ (m : MultiPortGraph) {p : ℕ} {d : Direction} (b : OnBlock m p d) where
+  long : Wf m.graph
+  long = lower_wf m b.wf
 
-  long : Wf whole.graph
-  long = lower_wf whole b.wf
-
-  pub need_read : need_in nodes links owners marks p d ≡ need_of whole p d
+  pub need_read : need_in m p d ≡ need_of m p d
   unfolding need_in need_of
-  need_read = go (is_split whole p) refl
+  need_read = go (is_split m p) refl
     where
       plain : (t : Bool) → cond t (need.Ready p 0) need.Split ≡ cond (cond t false true) need.Split (need.Ready p 0)
       plain true = refl
       plain false = refl
 
-      go : (t : Bool) → is_split whole p ≡ t →
-          cond (flag_at marks port_slots p) (copy_need_in links d (owner_in owners (far_in links p)) (meta_in nodes (owner_in owners (far_in links p)))) (cond (eqb (at links p) 0) (need.Ready p 0) need.Split)
-          ≡ cond (is_split whole p) (copy_need whole d (copy_node whole p) (meta_at whole.graph (copy_node whole p))) (cond (has_link whole.graph p) need.Split (need.Ready p 0))
+      go : (t : Bool) → is_split m p ≡ t →
+          cond (flag_at m.multiport port_slots p) (copy_need_in m.graph.port_link d (owner_in m.graph.port_meta (far_in m.graph.port_link p)) (meta_at m.graph (owner_in m.graph.port_meta (far_in m.graph.port_link p)))) (cond (eqb (at m.graph.port_link p) 0) (need.Ready p 0) need.Split)
+          ≡ cond (is_split m p) (copy_need m d (copy_node m p) (meta_at m.graph (copy_node m p))) (cond (has_link m.graph p) need.Split (need.Ready p 0))
       go true t =
           let c = owner_read b.wf.fine p b.node d b.is t in
-          rw (mark_told b.wf.fine p, t, c) (copy_read b t (meta_in nodes (copy_node whole p)) (meta_read nodes links owners heads totals.counts (copy_node whole p) long.holds.nodes_long))
-      go false t = rw (mark_told b.wf.fine p, t, has_link_lem b.wf p b.node d b.is) (plain (eqb (at links p) 0))
+          rw (mark_told b.wf.fine p, t, c) (copy_read b t (meta_at m.graph (copy_node m p)) refl)
+      go false t = rw (mark_told b.wf.fine p, t, has_link_lem b.wf p b.node d b.is) (plain (eqb (at m.graph.port_link p) 0))
+
+pub need_told : {m : MultiPortGraph} {p : ℕ} {d : Direction} → OnBlock m p d → {u : Need} → u ≡ need_in m p d → u ≡ need_of m p d
+need_told {m} b e = e ∙ need_read m b
 
 -- What a preparation leaves.
 
@@ -397,29 +392,29 @@ first_none : (l : List ℕ) → eqb (number_of_first l) 0 ≡ is_none l
 first_none [] = refl
 first_none (x ∷ l) = ne_eqb (suc x) 0 (λ z. omega arith)
 
-module _ (nodes links owners heads : List ℕ) (counts : Counts) {M : Model} (h : Holds (graph_in nodes links owners heads counts) M) where
-  next_none : eqb (next_free nodes counts.node_free) 0 ≡ is_none (rest M.free_nodes)
+module _ (g : PortGraph) {M : Model} (h : Holds g M) where
+  next_none : eqb (next_free g) 0 ≡ is_none (rest M.free_nodes)
   unfolding rest_of
   next_none = go M.free_nodes h.node_head h.node_chain
     where
-      go : (l : List ℕ) → counts.node_free ≡ number_of_first l → NodeChain (slots_in nodes) 0 l → eqb (next_free nodes counts.node_free) 0 ≡ is_none (rest l)
-      go [] e c = rw (eq-eqb counts.node_free 0 e)
+      go : (l : List ℕ) → g.node_free ≡ number_of_first l → NodeChain g.node_meta 0 l → eqb (next_free g) 0 ≡ is_none (rest l)
+      go [] e c = rw (eq-eqb g.node_free 0 e)
       go (x ∷ l) e c =
-          let p : counts.node_free - 1 ≡ x = omega arith in
-          let next : next_of (slot_in nodes (counts.node_free - 1)).entry ≡ number_of_first l =
-          ap (λ (k : ℕ). next_of (slot_in nodes k).entry) p ∙ (ap (λ (s : NodeSlot). next_of s.entry) (slot_read nodes x h.nodes_long) ∙ ap next_of c.0) in
-          rw (ne_eqb counts.node_free 0 (λ z. omega arith), next) (first_none l)
+          let p : g.node_free - 1 ≡ x = omega arith in
+          let next : next_of (slot_in g.node_meta (g.node_free - 1)).entry ≡ number_of_first l =
+          ap (λ (k : ℕ). next_of (slot_in g.node_meta k).entry) p ∙ ap next_of c.0 in
+          rw (ne_eqb g.node_free 0 (λ z. omega arith), next) (first_none l)
 
-  free_none : eqb counts.node_free 0 ≡ is_none M.free_nodes
+  free_none : eqb g.node_free 0 ≡ is_none M.free_nodes
   free_none = ap (λ (k : ℕ). eqb k 0) h.node_head ∙ first_none M.free_nodes
 
-  left_none : (t : Takes) (s : ℕ) → eqb (head_left links heads t s) 0 ≡ none_left t (M.free_blocks s) s
+  left_none : (t : Takes) (s : ℕ) → eqb (head_left g t s) 0 ≡ none_left t (M.free_blocks s) s
   left_none t s = go (eqb s t.give) (eqb s t.take)
     where
-      go : (a b : Bool) → eqb (cond a 1 (cond b (rest_of (head_at heads s) (at links (head_at heads s - 1))) (head_at heads s))) 0 ≡ cond a false (cond b (is_none (rest (M.free_blocks s))) (is_none (M.free_blocks s)))
+      go : (a b : Bool) → eqb (cond a 1 (cond b (rest_of (head_at g.port_free s) (at g.port_link (head_at g.port_free s - 1))) (head_at g.port_free s))) 0 ≡ cond a false (cond b (is_none (rest (M.free_blocks s))) (is_none (M.free_blocks s)))
       go true b = refl
-      go false true = rest_none links (head_at heads s) (M.free_blocks s) (h.block_chain s)
-      go false false = head_none links (head_at heads s) (M.free_blocks s) (h.block_chain s)
+      go false true = rest_none g.port_link (head_at g.port_free s) (M.free_blocks s) (h.block_chain s)
+      go false false = head_none g.port_link (head_at g.port_free s) (M.free_blocks s) (h.block_chain s)
 
   -- the lengths that the test computes are those after the works
   module _ (u v : Need) where
@@ -429,43 +424,43 @@ module _ (nodes links owners heads : List ℕ) (counts : Counts) {M : Model} (h 
     abbrev last : Room
     last = after_works middle (need_works v)
 
-    nodes_are : nodes_left nodes counts.node_free counts.node_len (takes_of u).node (takes_of v).node ≡ last.node_len
+    nodes_are : nodes_left g (takes_of u).node (takes_of v).node ≡ last.node_len
     nodes_are = go (takes_of u).node (takes_of v).node (took (room_of M) u).node_len (took (room_of M) u).nodes (took middle v).node_len
       where
         go : (a b : Bool) → middle.node_len ≡ M.node_len + cond a (growth 1 M.free_nodes) 0 → middle.free_nodes ≡ cond a (rest M.free_nodes) M.free_nodes →
-            last.node_len ≡ middle.node_len + cond b (growth 1 middle.free_nodes) 0 → nodes_left nodes counts.node_free counts.node_len a b ≡ last.node_len
+            last.node_len ≡ middle.node_len + cond b (growth 1 middle.free_nodes) 0 → nodes_left g a b ≡ last.node_len
         go true true p q r =
             let n = h.node_len in
-            let a = grown_by counts.node_free counts.node_len 1 _ free_none in
-            let b = grown_by (next_free nodes counts.node_free) (grown counts.node_free counts.node_len 1) 1 _ next_none in
+            let a = grown_by g.node_free g.node_len 1 _ free_none in
+            let b = grown_by (next_free g) (grown g.node_free g.node_len 1) 1 _ next_none in
             let c = growth_by 1 M.free_nodes in
             let e : growth 1 middle.free_nodes ≡ cond (is_none (rest M.free_nodes)) 1 0 = ap (growth 1) q ∙ growth_by 1 (rest M.free_nodes) in
             omega arith
         go true false p q r =
             let n = h.node_len in
-            let a = grown_by counts.node_free counts.node_len 1 _ free_none in
+            let a = grown_by g.node_free g.node_len 1 _ free_none in
             let c = growth_by 1 M.free_nodes in
             omega arith
         go false true p q r =
             let n = h.node_len in
-            let a = grown_by counts.node_free counts.node_len 1 _ free_none in
+            let a = grown_by g.node_free g.node_len 1 _ free_none in
             let e : growth 1 middle.free_nodes ≡ cond (is_none M.free_nodes) 1 0 = ap (growth 1) q ∙ growth_by 1 M.free_nodes in
             omega arith
         go false false p q r = let n = h.node_len in omega arith
 
-    ports_are : ports_left links heads counts.port_len (takes_of u) (takes_of v) ≡ last.port_len
+    ports_are : ports_left g (takes_of u) (takes_of v) ≡ last.port_len
     ports_are =
         let one = took (room_of M) u in
         let two = took middle v in
         let n = h.port_len in
         let p = one.port_len in
         let q = two.port_len in
-        let a = grown_by (head_at heads (takes_of u).take) counts.port_len (takes_of u).take (is_none (M.free_blocks (takes_of u).take)) (head_none links (head_at heads (takes_of u).take) (M.free_blocks (takes_of u).take) (h.block_chain (takes_of u).take)) in
+        let a = grown_by (head_at g.port_free (takes_of u).take) g.port_len (takes_of u).take (is_none (M.free_blocks (takes_of u).take)) (head_none g.port_link (head_at g.port_free (takes_of u).take) (M.free_blocks (takes_of u).take) (h.block_chain (takes_of u).take)) in
         let b = growth_by (takes_of u).take (M.free_blocks (takes_of u).take) in
-        let c = grown_by (head_left links heads (takes_of u) (takes_of v).take) (grown (head_at heads (takes_of u).take) counts.port_len (takes_of u).take) (takes_of v).take _ (left_none (takes_of u) (takes_of v).take) in
+        let c = grown_by (head_left g (takes_of u) (takes_of v).take) (grown (head_at g.port_free (takes_of u).take) g.port_len (takes_of u).take) (takes_of v).take _ (left_none (takes_of u) (takes_of v).take) in
         let e = growth_by (takes_of v).take (middle.free_blocks (takes_of v).take) in
-        let g = same (takes_of v).take (one.blocks (takes_of v).take) in
-        let sum : grown (head_at heads (takes_of u).take) counts.port_len (takes_of u).take + cond (none_left (takes_of u) (M.free_blocks (takes_of v).take) (takes_of v).take) (takes_of v).take 0 ≡ last.port_len = omega arith in
+        let f = same (takes_of v).take (one.blocks (takes_of v).take) in
+        let sum : grown (head_at g.port_free (takes_of u).take) g.port_len (takes_of u).take + cond (none_left (takes_of u) (M.free_blocks (takes_of v).take) (takes_of v).take) (takes_of v).take 0 ≡ last.port_len = omega arith in
         c ∙ sum
       where
         -- no size, no growth
@@ -473,7 +468,7 @@ module _ (nodes links owners heads : List ℕ) (counts : Counts) {M : Model} (h 
         same zero k = zero_either (is_none (middle.free_blocks 0)) ∙ sym (zero_either (none_left (takes_of u) (M.free_blocks 0) 0))
         same (suc s) k = ap (λ (b : Bool). cond b (suc s) 0) (k (omega arith))
 
-    room_said : room_for nodes links heads counts (takes_of u) (takes_of v) ≡ not (overflows (room_of M) (need_works u ++ need_works v))
+    room_said : room_for g (takes_of u) (takes_of v) ≡ not (overflows (room_of M) (need_works u ++ need_works v))
     unfolding room_for
     room_said =
         (λ i. cond (leb (nodes_are i) node_slots) (leb (ports_are i) port_slots) false)
@@ -507,19 +502,16 @@ overfull_stays r v e = go (ltb node_slots r.node_len) refl (ltb port_slots r.por
     go false p false q h = absurd (zero_is_not_one (cc))
 
 -- Both ends of a link, on two ports.
-module _ (nodes links owners heads : List ℕ) (marks flags : List Bool) (totals : Totals) {a : ℕ} {d : Direction} {b : ℕ} {e : Direction}
-    (w : BothOnBlock (multi_in nodes links owners heads marks flags totals) a d b e) (apart : a ≡ b → ⊥) where
-  abbrev m : MultiPortGraph
-  m = multi_in nodes links owners heads marks flags totals
-
+module _ (m : MultiPortGraph) {a : ℕ} {d : Direction} {b : ℕ} {e : Direction}
+    (w : BothOnBlock m a d b e) (apart : a ≡ b → ⊥) where
   abbrev M : Model
   M = w.first.wf.model
 
   abbrev room : Bool
-  room = room_for nodes links heads totals.counts (takes_of (need_of m a d)) (takes_of (need_of m b e))
+  room = room_for m.graph (takes_of (need_of m a d)) (takes_of (need_of m b e))
 
   room_works : room ≡ not (overflows (room_of M) (need_works (need_of m a d) ++ need_works (need_of m b e)))
-  room_works = room_said nodes links owners heads totals.counts w.first.wf.fine.holds (need_of m a d) (need_of m b e)
+  room_works = room_said m.graph w.first.wf.fine.holds (need_of m a d) (need_of m b e)
 
   first_space : (p : hiding.Prepared) → prepare m a d ≡ p → PreparedSpace M (need_works (need_of m a d)) p
   first_space p q =
@@ -540,7 +532,7 @@ module _ (nodes links owners heads : List ℕ) (marks flags : List Bool) (totals
   -- the second end, after the first
   module _ (m₁ : MultiPortGraph) (x o : ℕ) (q : prepare m a d ≡ hiding.ready m₁ x o) where
     pub second_still : OnBlock m₁ b e
-    second_still = others_stay w.first (record { graph = m₁; end = Some (x, o) }) (ap (prepared_as m) (sym q)) refl b e w.second
+    second_still = others_stay w.first (m₁, Ok (x, o)) (ap (prepared_as m) (sym q)) refl b e w.second
 
     second_works : prepare_works m₁ b e ≡ need_works (need_of m b e)
     second_works = works_need second_still ∙ ap need_works (need_stays w.first m₁ x o q w.second apart)

@@ -17,7 +17,7 @@ use Rattle.multiportgraph.specs.WellFormed.{inner#, copy_place, Fine, Seen}
 use Rattle.multiportgraph.specs.Ends.{Hangs, hangs, split_has_copy, one_copy, port_of_lem, linked_is, unlinked_is}
 use Rattle.multiportgraph.specs.Needs.{copy_need, need_of}
 use Rattle.multiportgraph.specs.declared.multiportgraph.MultiPortGraph.{MultiPortGraph}
-use Rattle.multiportgraph.specs.declared.lent.Need.TheVariants as need
+use Rattle.multiportgraph.specs.declared.needs.Need.TheVariants as need
 use Rattle.multiportgraph.specs.HiddenNodes.{lowest_free}
 
 -- both linked, or neither

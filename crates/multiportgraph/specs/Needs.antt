@@ -1,4 +1,4 @@
--- What the end that a link of a port takes needs before anything changes, said of the graph and read off lent tables; and whether
+-- What the end that a link of a port takes needs before anything changes, said of the graph and read off its tables; and whether
 -- there is room for both ends of a link, by the heads of the free lists and the used lengths alone.
 use Rattle.std.specs.Prelude.{Bool, true, false, cond, List, ℕ, ◌+◌, ◌-◌, ◌≤◌, eqb, leb, ltb, Option, Some, None}
 use Rattle.port_tables.specs.Limits.{node_slots, port_slots, node_ports}
@@ -7,18 +7,18 @@ use Rattle.port_tables.specs.Tables.{at, head_at}
 use Rattle.portgraph.specs.Lookups.{meta_at, start_of}
 use Rattle.portgraph.specs.Calls.{rest_of, grown}
 use Rattle.port_tables.specs.ResizeLinks.{round_up}
-use Rattle.port_tables.specs.NodeWords.{slot_in, meta_in}
+use Rattle.port_tables.specs.NodeTable.{slot_in}
 use Rattle.port_tables.specs.declared.direction.Direction.{Direction}
 use Rattle.port_tables.specs.declared.node_entry.NodeMeta.{NodeMeta}
-use Rattle.port_tables.specs.declared.lent.Counts.{Counts}
+use Rattle.portgraph.specs.declared.portgraph.PortGraph.{PortGraph}
 use Rattle.multiportgraph.specs.Reading.{has_link, is_split, copy_node, port_of}
 use Rattle.multiportgraph.specs.HiddenNodes as hiding
 use Rattle.multi_tables.specs.Forms.{flag_at, lowest_unlinked}
 use Rattle.multi_tables.specs.TableReads.{far_in, owner_in}
 use Rattle.multiportgraph.specs.declared.multiportgraph.MultiPortGraph.{MultiPortGraph}
-use Rattle.multiportgraph.specs.declared.lent.Need.{Need}
-use Rattle.multiportgraph.specs.declared.lent.Need.TheVariants as need
-use Rattle.multiportgraph.specs.declared.lent.Takes.{Takes}
+use Rattle.multiportgraph.specs.declared.needs.Need.{Need}
+use Rattle.multiportgraph.specs.declared.needs.Need.TheVariants as need
+use Rattle.multiportgraph.specs.declared.needs.Takes.{Takes}
 use Rattle.multiportgraph.specs.HiddenNodes.{lowest_free, split, grow}
 
 -- a hidden node c with its meta data: the lowest unlinked subport of side d, else one more
@@ -55,11 +55,11 @@ copy_need_in links d c (Some k) =
     (need.Grow (node# c) k))
     (need.Grow (node# c) k)
 
-unfoldable pub need_in : List ℕ → List ℕ → List ℕ → List Bool → ℕ → Direction → Need
-need_in nodes links owners marks p d =
-    cond (flag_at marks port_slots p)
-    (copy_need_in links d (owner_in owners (far_in links p)) (meta_in nodes (owner_in owners (far_in links p))))
-    (cond (eqb (at links p) 0) (need.Ready p 0) need.Split)
+unfoldable pub need_in : MultiPortGraph → ℕ → Direction → Need
+need_in m p d =
+    cond (flag_at m.multiport port_slots p)
+    (copy_need_in m.graph.port_link d (owner_in m.graph.port_meta (far_in m.graph.port_link p)) (meta_at m.graph (owner_in m.graph.port_meta (far_in m.graph.port_link p))))
+    (cond (eqb (at m.graph.port_link p) 0) (need.Ready p 0) need.Split)
 
 -- Room.
 
@@ -81,29 +81,29 @@ takes_of (need.Grow c k) =
 takes_of need.Split = record { node = true; take = 3; give = 0 }
 
 -- the first free node entry after one is taken
-abbrev pub next_free : List ℕ → ℕ → ℕ
-next_free nodes free = rest_of free (next_of (slot_in nodes (free - 1)).entry)
+abbrev pub next_free : PortGraph → ℕ
+next_free g = rest_of g.node_free (next_of (slot_in g.node_meta (g.node_free - 1)).entry)
 
 -- the used length of the node table after both ends took what they take
-abbrev pub nodes_left : List ℕ → ℕ → ℕ → Bool → Bool → ℕ
-nodes_left nodes free len true true = grown (next_free nodes free) (grown free len 1) 1
-nodes_left nodes free len true false = grown free len 1
-nodes_left nodes free len false true = grown free len 1
-nodes_left nodes free len false false = len
+abbrev pub nodes_left : PortGraph → Bool → Bool → ℕ
+nodes_left g true true = grown (next_free g) (grown g.node_free g.node_len 1) 1
+nodes_left g true false = grown g.node_free g.node_len 1
+nodes_left g false true = grown g.node_free g.node_len 1
+nodes_left g false false = g.node_len
 
 -- the first free block of a size after the first end took and gave
-abbrev pub head_left : List ℕ → List ℕ → Takes → ℕ → ℕ
-head_left links heads first size =
+abbrev pub head_left : PortGraph → Takes → ℕ → ℕ
+head_left g first size =
     cond (eqb size first.give) 1
-    (cond (eqb size first.take) (rest_of (head_at heads size) (at links (head_at heads size - 1))) (head_at heads size))
+    (cond (eqb size first.take) (rest_of (head_at g.port_free size) (at g.port_link (head_at g.port_free size - 1))) (head_at g.port_free size))
 
 -- the used length of the port tables after both ends took what they take
-abbrev pub ports_left : List ℕ → List ℕ → ℕ → Takes → Takes → ℕ
-ports_left links heads len first second =
-    grown (head_left links heads first second.take) (grown (head_at heads first.take) len first.take) second.take
+abbrev pub ports_left : PortGraph → Takes → Takes → ℕ
+ports_left g first second =
+    grown (head_left g first second.take) (grown (head_at g.port_free first.take) g.port_len first.take) second.take
 
-unfoldable pub room_for : List ℕ → List ℕ → List ℕ → Counts → Takes → Takes → Bool
-room_for nodes links heads counts first second =
-    cond (leb (nodes_left nodes counts.node_free counts.node_len first.node second.node) node_slots)
-    (leb (ports_left links heads counts.port_len first second) port_slots)
+unfoldable pub room_for : PortGraph → Takes → Takes → Bool
+room_for g first second =
+    cond (leb (nodes_left g first.node second.node) node_slots)
+    (leb (ports_left g first second) port_slots)
     false

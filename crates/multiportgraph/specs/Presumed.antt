@@ -1,10 +1,11 @@
--- What the inner functions of a link presume of the ports that they are given; what public calls presume is `MultiWf` alone.
-use Rattle.std.specs.Prelude.{◌≡◌, true, false, ℕ, ◌<◌, Some}
+-- What inner functions presume of the ports and blocks that they are given; what public calls presume is `MultiWf` alone.
+use Rattle.std.specs.Prelude.{◌≡◌, true, false, ℕ, ◌+◌, ◌≤◌, ◌<◌, Some}
+use Rattle.port_tables.specs.Limits.{node_ports}
 use Rattle.port_tables.specs.Tables.{at}
 use Rattle.portgraph.specs.Lookups.{meta_at}
 use Rattle.port_tables.specs.declared.direction.Direction.{Direction}
 use Rattle.port_tables.specs.declared.node_entry.NodeMeta.{NodeMeta}
-use Rattle.multiportgraph.specs.Reading.{seen, is_split, copy_node, subports}
+use Rattle.multiportgraph.specs.Reading.{seen, is_hidden, is_split, copy_node, subports}
 use Rattle.multi_tables.specs.Forms.{visible}
 use Rattle.multiportgraph.specs.HiddenNodes.{ready, prepare}
 use Rattle.multiportgraph.specs.Tidy.{subports_left}
@@ -49,3 +50,10 @@ pub record GrowPort (m : MultiPortGraph) (p : ℕ) (d : Direction) (c : ℕ) (k 
 pub record FirstReady (m : MultiPortGraph) (a : ℕ) (d : Direction) (x o b : ℕ) (e : Direction) : Type 0 where
   pub both : BothOnBlock m a d b e
   pub is : prepare m a d ≡ ready m x o
+
+-- a block that is there, with counts that are few enough
+pub record Resizes (m : MultiPortGraph) (n : ℕ) (k : NodeMeta) (incoming outgoing : ℕ) : Type 0 where
+  pub wf : MultiWf m
+  pub few : incoming + outgoing ≤ node_ports
+  pub meta : Some k ≡ meta_at m.graph n
+  pub seen : is_hidden m n ≡ false

@@ -48,6 +48,7 @@ use Rattle.multiportgraph.specs.HiddenNodes.{recounted, ready, more_incoming, mo
 use Rattle.multi_tables.specs.Forms.{lay_marks}
 use Rattle.portgraph.specs.declared.resize.SetError.{SetError}
 use Rattle.portgraph.specs.declared.resize.SetError.TheVariants as set_error
+use Rattle.multiportgraph.specs.Ends.{twice_reversed}
 
 -- What the lower resize does to the model: node n has other counts and maybe another block, links of dropped places go.
 
@@ -475,10 +476,7 @@ abbrev pub counted : MultiPortGraph → ℕ → PortGraph → ℕ → MultiPortG
 counted m c g subs = with_subports (recounted m c g) subs
 
 pub reversed_twice : (d e : Direction) → d ≡ reversed e → reversed d ≡ e
-reversed_twice Incoming Incoming p = absurd (zero_is_not_one (cc))
-reversed_twice Incoming Outgoing p = refl
-reversed_twice Outgoing Incoming p = refl
-reversed_twice Outgoing Outgoing p = absurd (zero_is_not_one (cc))
+reversed_twice d e p = ap reversed p ∙ twice_reversed e
 
 pub both_sides : (k : NodeMeta) (d : Direction) → k.incoming + k.outgoing ≡ ports_on k d + ports_on k (reversed d)
 both_sides k Incoming = refl

@@ -421,7 +421,7 @@ sides_in_row f k g h Both =
     ∙ (sym (flat_map_append f (range k.first_port.0 k.incoming) (range (k.first_port.0 + k.incoming) k.outgoing))
     ∙ ap (flat_map f) (sym (range_append k.first_port.0 k.incoming k.outgoing (ports_across k Both) (omega arith))))
 
-flat_map_single : {A : Type 0} (l : List A) → flat_map (λ x. x ∷ []) l ≡ l
+pub flat_map_single : {A : Type 0} (l : List A) → flat_map (λ x. x ∷ []) l ≡ l
 unfolding flat_map
 flat_map_single [] = refl
 flat_map_single {A} (x ∷ l) = ap (λ (r : List A). x ∷ r) (flat_map_single l)

@@ -48,27 +48,16 @@ use Rattle.multiportgraph.specs.Cases.{resized, set_meta}
 use Rattle.multiportgraph.specs.CaseLaws.{set_cases}
 use Rattle.portgraph.specs.declared.resize.SetError.TheVariants as set_error
 use Rattle.portgraph.specs.declared.resize.SetError.{SetError}
+use Rattle.port_tables.specs.Listing.{member_left, member_right, member_append}
+use Rattle.std.proofs.lemmas.Bool.{or_parts}
+use Rattle.portgraph.specs.DropHolds.{is_beyond}
 
 -- Lists.
-
-in_append : (c : ℕ) (l k : List ℕ) → Member c (l ++ k) → Member c l ⊎ Member c k
-in_append c [] k h = inr h
-in_append c (x ∷ l) k (inl e) = inl (inl e)
-in_append c (x ∷ l) k (inr h) = ⊎_elim (λ t. inl (inr t)) inr (in_append c l k h)
-
-append_left : (c : ℕ) (l k : List ℕ) → Member c l → Member c (l ++ k)
-append_left c [] k h = absurd h
-append_left c (x ∷ l) k (inl e) = inl e
-append_left c (x ∷ l) k (inr h) = inr (append_left c l k h)
-
-append_right : (c : ℕ) (l k : List ℕ) → Member c k → Member c (l ++ k)
-append_right c [] k h = h
-append_right c (x ∷ l) k h = inr (append_right c l k h)
 
 uniq_append : (l k : List ℕ) → Once l → Once k → ((c : ℕ) → Member c l → Member c k → ⊥) → Once (l ++ k)
 uniq_append [] k u v d = v
 uniq_append (x ∷ l) k u v d =
-    ((λ h. ⊎_elim u.0 (d x (inl refl)) (in_append x l k h)), uniq_append l k u.1 v (λ c p q. d c (inr p) q))
+    ((λ h. ⊎_elim u.0 (d x (inl refl)) (member_append x l k h)), uniq_append l k u.1 v (λ c p q. d c (inr p) q))
 
 -- Hidden nodes of a range of ports.
 
@@ -170,7 +159,7 @@ module _ {m : MultiPortGraph} {M : Model} (f : Fine m M) (n : ℕ) (a : NodeMeta
   module _ (i o : ℕ) where
     dropped_has : (c : ℕ) → Member c (copies_dropped m a i o) → DroppedMain m M n i o c
     unfolding copies_dropped
-    dropped_has c h = ⊎_elim ins outs (in_append c (dropped_ins m a i) (dropped_outs m a o) h)
+    dropped_has c h = ⊎_elim ins outs (member_append c (dropped_ins m a i) (dropped_outs m a o) h)
       where
         found : (d : Direction) (j t : ℕ) → j < ports_on a d → slot_on_side (live a) d j ≡ t → new_count i o d ≤ j → is_split m t ≡ true → copy_node m t ≡ c → DroppedMain m M n i o c
         found d j t l q b e k =
@@ -225,13 +214,13 @@ module _ {m : MultiPortGraph} {M : Model} (f : Fine m M) (n : ℕ) (a : NodeMeta
             let l = count Incoming e in
             let u = beyond_by Incoming e in
             let q = slot_by Incoming e in
-            append_left c (dropped_ins m a i) (dropped_outs m a o) (subst (λ (k : ℕ). Member k (dropped_ins m a i)) named
+            member_left c (dropped_ins m a i) (dropped_outs m a o) (subst (λ (k : ℕ). Member k (dropped_ins m a i)) named
             (copies_in_lem _ m _ (slot_of M.node t.main) (omega arith) (omega arith) marked))
         go Outgoing e =
             let l = count Outgoing e in
             let u = beyond_by Outgoing e in
             let q = slot_by Outgoing e in
-            append_right c (dropped_ins m a i) (dropped_outs m a o)
+            member_right c (dropped_ins m a i) (dropped_outs m a o)
             (subst (λ (k : ℕ). Member k (dropped_outs m a o)) named
             (copies_in_lem _ m _ (slot_of M.node t.main) (omega arith) (omega arith) marked))
 
@@ -568,9 +557,6 @@ all_go (c ∷ cs) l t = all_go cs (lone_goes c cs l) (tracks_lone c cs l t)
 
 -- The lower resize of block n, with the marks moved: exactly the hidden nodes of dropped ports are loose.
 
-dropped_so : (n i o : ℕ) (y : model.InnerPlace) → y.node ≡ n → new_count i o y.side ≤ y.pos → beyond n i o y ≡ true
-dropped_so n i o y e h = rw (eq-eqb y.node n e, le-leb (new_count i o y.side) y.pos h)
-
 dropped_or_not : (i o : ℕ) (y : model.InnerPlace) → (new_count i o y.side ≤ y.pos) ⊎ (y.pos < new_count i o y.side)
 dropped_or_not i o y = go (leb (new_count i o y.side) y.pos) refl
   where
@@ -682,7 +668,7 @@ module _ {m : MultiPortGraph} {M : Model} (f : Fine m M) (n : ℕ) (a : NodeMeta
               (c.main, ap M'.join (re_place k e) ∙ re_join (copy_place m k) c.main c.joined (λ u. absurd (not_n k e u)) (main_stays k c.main e out c.joined).0, re_hidden c.main.node ∙ c.main_seen);
           loose = λ k h.
               let d = dropped_has f n a shown here i o k h in
-              (re_hidden k ∙ d.is_copy, ap M'.join (re_place k d.is_copy) ∙ r.join _ ∙ drop_there (beyond n i o) M.join (copy_place m k) d.main d.joined (dropped_so n i o d.main d.node d.dropped));
+              (re_hidden k ∙ d.is_copy, ap M'.join (re_place k d.is_copy) ∙ r.join _ ∙ drop_there (beyond n i o) M.join (copy_place m k) d.main d.joined (is_beyond n i o d.main d.node d.dropped));
           once = uniq_dropped f n a shown here i o;
           copy_marked = λ k h.
               let e = sym (re_hidden k) ∙ h in
@@ -722,10 +708,6 @@ SameSplit m M m' M' x =
 
 -- Wires in the end.
 
-neither : (p q : Bool) → (p || q) ≡ false → (p ≡ false) × (q ≡ false)
-neither true q e = absurd (zero_is_not_one (cc))
-neither false q e = (refl, e)
-
 module _ {m : MultiPortGraph} {M : Model} (f : Fine m M) (n : ℕ) (a : NodeMeta) (shown : is_hidden m n ≡ false) (here : M.node n ≡ live a) (i o : ℕ)
     {m' : MultiPortGraph} {b : NodeMeta} (z : Cleared m M m' n i o b (copies_dropped m a i o)) where
   -- an end stays exactly if it is not at a dropped position
@@ -747,7 +729,7 @@ module _ {m : MultiPortGraph} {M : Model} (f : Fine m M) (n : ℕ) (a : NodeMeta
         (λ q. absurd (not_n f n a shown here i o x.node h q)),
         (λ k.
             let d = dropped_has f n a shown here i o x.node k in
-            true_not_false (dropped_so n i o d.main d.node d.dropped) (sym (ap (of_dropped n i o) (outer_of_subport f x d.main h d.joined)) ∙ e)),
+            true_not_false (is_beyond n i o d.main d.node d.dropped) (sym (ap (of_dropped n i o) (outer_of_subport f x d.main h d.joined)) ∙ e)),
       )
       go false h = (stays_below n i o x (sym (ap (of_dropped n i o) (outer_of_block f x h)) ∙ e), out_of f n a shown here i o x.node h)
 
@@ -798,7 +780,7 @@ module _ {m : MultiPortGraph} {M : Model} (f : Fine m M) (n : ℕ) (a : NodeMeta
   wires_left =
       record {
         kept = λ w e t.
-            let d = neither (of_dropped n i o (outer m M e.x)) (of_dropped n i o (outer m M e.y)) (sym (ap (touches (of_dropped n i o)) e.is) ∙ t) in
+            let d = or_parts (of_dropped n i o (outer m M e.x)) (of_dropped n i o (outer m M e.y)) (sym (ap (touches (of_dropped n i o)) e.is) ∙ t) in
             let s = not_dropped_stays e.x d.0 in
             let u = not_dropped_stays e.y d.1 in
             record {

@@ -10,7 +10,7 @@ use native.Mathlib.Omega.{arith}
 use Rattle.std.proofs.Math.Dec.{eqb}
 use Rattle.std.proofs.Math.ListN.{length, get_or, set, length-set}
 use Rattle.std.proofs.Math.Seq.{get_or-set_same, get_or-set_other}
-use borrow.Author.Tests.{eqb-true, leb-true, leb-false}
+use borrow.Author.Tests.{eqb-true, ne_eqb, leb-true, leb-false}
 use Rattle.port_tables.specs.Limits.{node_slots, port_slots, node_ports}
 use Rattle.port_tables.specs.Entries.{reversed, ports_on, node#, port#, meta_of}
 use Rattle.port_tables.specs.Tables.{at, cut, link_both, link_count}
@@ -45,6 +45,7 @@ use Rattle.multiportgraph.specs.HiddenStays.{same_wire}
 use Rattle.multiportgraph.specs.declared.multiportgraph.MultiPortGraph.{MultiPortGraph}
 use Rattle.port_tables.specs.Places.{Place, Wire, flag}
 use Rattle.multiportgraph.specs.HiddenNodes.{copy_incoming, copy_outgoing, Prepared, ready, full, split, split_by, split_port, split_graph, split_under}
+use Rattle.multiportgraph.specs.Ends.{twice_reversed}
 
 -- a wire has an end at a place
 abbrev pub HasEnd : Wire → Place → Type 0
@@ -178,10 +179,6 @@ two_subports Outgoing k i o = o
 one_copy_port : (d : Direction) (k : NodeMeta) → k.incoming ≡ copy_incoming d → k.outgoing ≡ copy_outgoing d → ports_on k (reversed d) ≡ 1
 one_copy_port Incoming k i o = o
 one_copy_port Outgoing k i o = i
-
-twice_reversed : (d : Direction) → reversed (reversed d) ≡ d
-twice_reversed Incoming = refl
-twice_reversed Outgoing = refl
 
 copy_side_apart : (d : Direction) (mark : Bool) → side_by (copy_incoming d) (copy_outgoing d) mark ≡ reversed d
 copy_side_apart Incoming mark = refl
@@ -637,7 +634,7 @@ pub record SplitTables (p : ℕ) (d : Direction) (g : PortGraph) (c first : ℕ)
   pub copy : port_of g c (reversed d) 0 ≡ first + copy_at d
   pub old : port_of g c d 0 ≡ first + subports_at d
   pub new : port_of g c d 1 ≡ first + subports_at d + 1
-  pub far : far_port g p ≡ far_in g.port_link p
+  pub held : link_count (at g.port_link p) ≡ 1
   pub fits : first + 3 ≤ port_slots
 
 -- The lower graph's steps.
@@ -799,6 +796,11 @@ module _ {m : MultiPortGraph} {M : Model} (f : Fine m M) (x y : model.InnerPlace
   unfolding far_in
   far_in_lem = let e = link_to good₁ holds₁ x y valid_x linked in ap (λ (s : ℕ). at g₁.port_link s - 1) (sym slot_of_x) ∙ omega arith
 
+  -- one link is cut
+  held_lem : link_count (at g₁.port_link (slot_of M.node x)) ≡ 1
+  unfolding link_count
+  held_lem = let e = link_to good₁ holds₁ x y valid_x linked in rw (← slot_of_x, e, ne_eqb (suc (slot_of M₁.node y)) 0 (λ z. omega arith))
+
   links₄ : split_graph g₁ (slot_of M.node x) x.side c#
       ≡ with_links g₁
       (hang_on g₁.port_link (slot_of M.node x) (next_block M (copy_incoming x.side + copy_outgoing x.side) + copy_at x.side) (next_block M (copy_incoming x.side + copy_outgoing x.side) + subports_at x.side))
@@ -828,7 +830,7 @@ module _ {m : MultiPortGraph} {M : Model} (f : Fine m M) (x y : model.InnerPlace
         copy = port_at good₁ holds₁ cp valid_cp ∙ copy_at_lem;
         old = port_at good₁ holds₁ (sp 0) (valid_sp 0 (omega arith)) ∙ (subport_at 0 ∙ omega arith);
         new = port_at good₁ holds₁ (sp 1) (valid_sp 1 (omega arith)) ∙ subport_at 1;
-        far = ap (far_port g₁) (sym slot_of_x) ∙ (far_at good₁ holds₁ x y linked ∙ sym far_in_lem);
+        held = held_lem;
         fits = let e = good₁.block_ends c# new# is_new in let l = good₁.ports_fit in let t = three_ports x.side in omega arith;
       }
 

@@ -2,7 +2,7 @@
 use Rattle.std.proofs.Math.Path.{◌≡◌, refl, sym, ap}
 use Rattle.std.proofs.Common.{◌∙◌, ltb-true, ltb-false, leb-true, leb-false}
 use Rattle.std.specs.Prelude.{Bool, false, leb, ltb, Option, Some, None, Ok}
-use Rattle.std.proofs.Math.Bool.{true}
+use Rattle.std.proofs.Math.Bool.{true, cond}
 use mathlib.Core.List.{List, [], ◌∷◌, ◌++◌, map}
 use Prim.Native.Nat.{ℕ, zero, suc, ◌+◌, ◌-◌, ◌≤◌, ◌<◌, min}
 use native.Mathlib.Omega.{arith}
@@ -92,6 +92,19 @@ module _ (marks : List Bool) (links owners : List ℕ) (flags : List Bool) where
       pub subports_done : stop ≤ p → None ≡ first_subport (subports_rest marks links owners flags p o (stop - p))
       unfolding subports_rest first_subport on_first
       subports_done h = let a : stop - p ≡ 0 = omega arith in rw a
+
+  -- Where a walk goes on.
+
+  pub beyond_start : (from end held o : ℕ) (s : ℕ × ℕ) {r : Option SubportIndex} → s ≡ cond (leb held from) (from, 0) (held - 1, o + 1)
+      → r ≡ first_subport (subports_rest marks links owners flags s.0 s.1 (min end port_slots - s.0)) → r ≡ first_subport (subports_beyond marks links owners flags from end held o)
+  unfolding subports_beyond
+  beyond_start from end held o s e f = f ∙ go (leb held from) s e
+    where
+      go : (b : Bool) (s : ℕ × ℕ) → s ≡ cond b (from, 0) (held - 1, o + 1)
+          → first_subport (subports_rest marks links owners flags s.0 s.1 (min end port_slots - s.0))
+          ≡ first_subport (cond b (subports_rest marks links owners flags from 0 (min end port_slots - from)) (subports_rest marks links owners flags (held - 1) (suc o) (min end port_slots - (held - 1))))
+      go true s e = rw e
+      go false s e = let a : o + 1 ≡ suc o = omega arith in rw (e, a)
 
 -- What the tables tell is what the graph has.
 

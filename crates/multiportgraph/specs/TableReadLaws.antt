@@ -31,6 +31,7 @@ use Rattle.multi_tables.specs.TableReads.{far_in, owner_in, seen_owner, seen_in,
 use Rattle.multiportgraph.specs.declared.multiportgraph.MultiPortGraph.{MultiPortGraph}
 use Rattle.multi_tables.specs.declared.answers.SubportIndex.{SubportIndex}
 use Rattle.multi_tables.specs.EndAnswers.{unplaced}
+use Rattle.multiportgraph.specs.Ends.{twice_reversed}
 
 -- Runs.
 
@@ -179,12 +180,6 @@ owner_number_lem e n d h = go (eqb e 0) (eqb ((e - 1) % 2) 0) refl refl h
         let w : e ≡ 2 * n + 2 = omega arith in
         w ∙ ap (owner_number n) (ap side_in k)
 
-twice_reversed : (d e : Direction) → d ≡ reversed e → e ≡ reversed d
-twice_reversed Incoming Outgoing q = refl
-twice_reversed Outgoing Incoming q = refl
-twice_reversed Incoming Incoming q = absurd (zero_is_not_one (cc))
-twice_reversed Outgoing Outgoing q = absurd (zero_is_not_one (cc))
-
 -- the reader that leaves the place out gives the same end
 pub wire_unplaced : (links owners : List ℕ) (flags : List Bool) (q : ℕ) → wire_end_in links owners flags q ≡ unplaced (wire_in links owners flags q)
 unfolding wire_end_in wire_in
@@ -266,7 +261,7 @@ module _ {m : MultiPortGraph} {M : Model} (f : Fine m M) where
     stands : Beside x.side (far_in m.graph.port_link (slot_of M.node x)) (row_start M k.copy x.side) (count_of (M.node k.copy) x.side)
     stands =
         subst (λ (q : ℕ). Beside x.side q (row_start M k.copy x.side) (count_of (M.node k.copy) x.side)) (sym copy_place_lem)
-        (beside k.copy x.side k.is_copy (twice_reversed x.side (copy_side m k.copy) k.side))
+        (beside k.copy x.side k.is_copy (sym (ap reversed k.side ∙ twice_reversed (copy_side m k.copy))))
 
     subports_there : subports_in m.graph.port_link m.graph.port_meta (slot_of M.node x) x.side ≡ subports m (slot_of M.node x) x.side
     unfolding subports_in
@@ -310,7 +305,7 @@ module _ {m : MultiPortGraph} {M : Model} (f : Fine m M) where
           let v = e.valid in
           let l : 0 < count_of (M.node z.node) z.side = omega arith in
           let r = side_row z.node z.side l in
-          let b = beside z.node z.side h (twice_reversed z.side (copy_side m z.node) (end_side f z e h)) in
+          let b = beside z.node z.side h (sym (ap reversed (end_side f z e h) ∙ twice_reversed (copy_side m z.node))) in
           let o : run_down m.graph.port_meta (at m.graph.port_meta (slot_of M.node z)) (slot_of M.node z) ≡ z.pos =
           row_offset r (slot_of M.node z) (omega arith) (omega arith) ∙ omega arith in
           let c : far_in m.graph.port_link (copy_beside m.graph.port_meta (slot_of M.node z) z.side) ≡ slot_of M.node k.main =

@@ -31,6 +31,7 @@ use Rattle.multiportgraph.specs.declared.iter.Wires.{Wires}
 use Rattle.port_tables.specs.Places.{Place, Wire}
 use Rattle.multi_tables.specs.declared.answers.Refusal.{Refusal}
 use Rattle.multi_tables.specs.declared.answers.PortPlace.{PortPlace}
+use Rattle.multiportgraph.specs.ScanLaws.{wire_stands}
 
 -- a listed subport: the port x of a block that it stands at, and the end z that it is
 pub record SubportIs (m : MultiPortGraph) (M : Model) (x z : model.InnerPlace) (s : SubportIndex) : Type 0 where
@@ -96,16 +97,6 @@ abbrev pub Earlier : Wire → Wire → Type 0
 Earlier v w = Lex v.out.node v.out.pos v.out.offset w.out.node w.out.pos w.out.offset
 
 -- a subport has one wire or none, from itself
-wire_from : (m : MultiPortGraph) (d : Direction) (s : SubportIndex) (w : SubportLink) → Member w (wire_of m d s) → w.from ≡ s
-unfolding wire_of
-wire_from m d s w = go (link_of_end m s.port.0 (end_at m s.port.0 d s.subport_offset))
-  where
-    go : (a : Result (Option (SubportIndex × PortPlace)) Refusal) → Member w (wire_to s a) → w.from ≡ s
-    go (Ok (Some (t, x))) (inl e) = ap (λ (v : SubportLink). v.from) e
-    go (Ok (Some (t, x))) (inr i) = absurd i
-    go (Ok None) i = absurd i
-    go (Err r) i = absurd i
-
 wire_rises : (R : SubportLink → SubportLink → Type 0) (m : MultiPortGraph) (d : Direction) (s : SubportIndex) → Rising R (wire_of m d s)
 unfolding wire_of
 wire_rises R m d s = go (link_of_end m s.port.0 (end_at m s.port.0 d s.subport_offset))
@@ -482,7 +473,7 @@ module _ {m : MultiPortGraph} {M : Model} (f : Fine m M) where
   unfolding side_links
   side_rises n =
       rising_flat_map (Ahead m) (Before m) (wire_of m Outgoing) (subports_of_side m n Outgoing) (side_subports_rise n) (λ s i. wire_rises (Before m) m Outgoing s)
-      (λ s t v w i j l h k. rw (wire_from m Outgoing s v h, wire_from m Outgoing t w k) l)
+      (λ s t v w i j l h k. rw (wire_stands m Outgoing s v h, wire_stands m Outgoing t w k) l)
 
   blocks_rise : Rising ◌<◌ (blocks m)
   unfolding blocks

@@ -1,136 +1,124 @@
 // Hidden nodes: one goes with its port, and a node whose ports move keeps its marks.
-ghost use Rattle.std.specs.Prelude.{true, false, ◌≡◌, ◌-◌};
-ghost use Rattle.port_tables.specs.Limits.{node_slots, port_slots};
-ghost use Rattle.portgraph.specs.Calls.{remove_node};
+ghost use Rattle.std.specs.Prelude.{◌≡◌, ◌+◌, ◌-◌, ◌≤◌, length, Some};
+ghost use Rattle.std.proofs.lemmas.List.Edits.{sets};
+ghost use Rattle.port_tables.specs.Limits.{port_slots};
+ghost use Rattle.port_tables.specs.ResizeLinks.{BlockFits};
+ghost use Rattle.portgraph.specs.Lookups.{meta_at};
+ghost use Rattle.portgraph.specs.Resize.{dropped};
 ghost use Rattle.portgraph.specs.Model.{Wf};
-ghost use Rattle.multiportgraph.specs.Graph.{multi};
-ghost use Rattle.multi_tables.specs.Forms.{put_flag};
-ghost use Rattle.multiportgraph.specs.HiddenNodes.{remove_copy, unsplit, recounted};
-ghost use Rattle.multi_tables.specs.TableReads.{far_in, owner_in, subports_in};
-ghost use Rattle.multiportgraph.specs.Presumed.{SplitPort};
+ghost use Rattle.multiportgraph.specs.Graph.{with_marks};
+ghost use Rattle.multiportgraph.specs.HiddenNodes.{remove_copy, remove_lone, remove_all, unsplit, unsplit_range, copies_in, copies_dropped, marks_moved};
 
 use crate::ends::port_of;
 use crate::multiportgraph::MultiPortGraph;
-use multi_tables::marks::{Recount, flagged, put_flag, put_marks};
-use multi_tables::seen::SidedPort;
+use multi_tables::marks::{Recount, put_flag, put_marks};
 use port_tables::index::NodeIndex;
+use port_tables::node_entry::NodeMeta;
 use port_tables::numbers::wide;
-use port_tables::tables::{far_in, owner_in};
-use portgraph::portgraph::PortGraph;
-
-// The hidden node of a split port: its copy port, its number, and how many subports it has.
-#[derive(Clone, Copy)]
-pub(crate) struct HiddenCopy {
-    pub(crate) copy: u32,
-    pub(crate) node: u32,
-    pub(crate) count: usize,
-}
+use port_tables::resize_links::Resize;
 
 impl MultiPortGraph {
-    // The hidden node of a split port, read off the tables.
-    pub(crate) fn hidden_copy(&self, port: SidedPort) -> HiddenCopy
-        ensures { (result.copy ≡ far_in self.now.graph.port_link port.port) × (result.node ≡ owner_in self.now.graph.port_meta result.copy) × (result.count ≡ subports_in self.now.graph.port_link self.now.graph.port_meta port.port port.side) }
-    {
-        let copy = far_in(&self.graph.port_link, wide(port.port));
-        HiddenCopy {
-            copy: copy,
-            node: owner_in(&self.graph.port_meta, copy),
-            count: self.wire_tables().subports_in(port),
-        }
-    }
-
-    // The graph in which the marks of a hidden node's copy port and of the port that it hangs on, and its flag, are set so: a
-    // hidden node comes or goes.
-    pub(crate) fn with_copy(mut self, port: u32, copy: u32, node: u32, mark: bool) -> MultiPortGraph
-        ensures { result ≡ multi self.graph (put_flag (put_flag self.multiport port_slots copy mark) port_slots port mark) (put_flag self.copy_node node_slots node mark) self.copy_node_count self.subport_count self.release }
-    {
-        put_marks(&mut self.multiport, copy, mark, port, mark);
-        put_flag(&mut self.copy_node, wide(node), mark);
-        self
-    }
-
-    // The graph with this lower graph, in which the hidden node of a split port has other counts, and with so many subports: the
-    // copy port's mark moves with it.
-    pub(crate) fn copy_moved(
-        mut self,
-        graph: PortGraph,
-        port: u32,
-        copy: u32,
-        subports: usize,
-    ) -> MultiPortGraph
-        ensures { result ≡ multi graph (put_flag (put_flag self.multiport port_slots copy false) port_slots (far_in graph.port_link port) true) self.copy_node self.copy_node_count subports self.release }
-    {
-        self.graph = graph;
-        let moved = far_in(&self.graph.port_link, wide(port));
-        put_marks(&mut self.multiport, copy, false, moved, true);
-        self.subport_count = subports;
-        self
-    }
-
-    // The graph without a hidden node that hangs on this port.
-    fn without_copy(self, port: u32, hidden: HiddenCopy) -> MultiPortGraph
-        requires { Wf self.graph }
-        ensures { result ≡ multi (remove_node self.graph hidden.node).graph (put_flag (put_flag self.multiport port_slots hidden.copy false) port_slots port false) (put_flag self.copy_node node_slots hidden.node false) (self.copy_node_count - 1) (self.subport_count - hidden.count) self.release }
-    {
-        let removed = self.graph.remove_node(NodeIndex(hidden.node));
-        let mut bare = self.with_copy(port, hidden.copy, hidden.node, false);
-        bare.graph = removed.graph;
-        bare.copy_node_count = bare.copy_node_count.saturating_sub(1);
-        bare.subport_count = bare.subport_count.saturating_sub(hidden.count);
-        bare
-    }
-
     // The hidden node of a split port goes, with every link at it.
-    pub(crate) fn remove_copy(self, port: u32, node: u32) -> MultiPortGraph
-        requires { Wf self.graph }
-        ensures { result ≡ remove_copy self port node }
+    pub(crate) fn remove_copy(&mut self, port: u32, node: u32)
+        requires { Wf self.old.graph }
+        ensures { self.new ≡ remove_copy self.old port node }
     {
         let side = self.copy_side(node);
-        let hidden = HiddenCopy {
-            copy: port_of(self.graph, node, side, 0),
-            node: node,
-            count: self.graph.num_ports(NodeIndex(node), side.reverse()),
-        };
-        self.without_copy(port, hidden)
-    }
-
-    // A split port of a block loses its hidden node, with every link at it.
-    pub(crate) fn drop_copy(self, port: SidedPort) -> MultiPortGraph
-        requires { SplitPort self port.port port.side }
-        ensures { result ≡ unsplit self port.port }
-    {
-        let hidden = self.hidden_copy(port);
-        self.without_copy(port.port, hidden)
+        let copy = port_of(&self.graph, node, side, 0);
+        let count = self.graph.num_ports(NodeIndex(node), side.reverse());
+        // Of a node that is not live nothing goes.
+        let _ = self.graph.remove_node_lent(NodeIndex(node));
+        put_marks(&mut self.multiport, copy, false, port, false);
+        put_flag(&mut self.copy_node, wide(node), false);
+        self.copy_node_count = self.copy_node_count.saturating_sub(1);
+        self.subport_count = self.subport_count.saturating_sub(count);
     }
 
     // A port of a block loses its hidden node, if it has one.
     #[tactic(auto, using(crate::specs::CodeFormSteps::split_told, crate::specs::CopySteps::unsplit_split, crate::specs::CopySteps::unsplit_plain))]
-    pub(crate) fn unsplit(self, port: u32) -> MultiPortGraph
-        requires { Wf self.graph }
-        ensures { result ≡ unsplit self port }
+    pub(crate) fn unsplit(&mut self, port: u32)
+        requires { Wf self.old.graph }
+        ensures { self.new ≡ unsplit self.old port }
     {
         if self.is_split(port) {
-            return self.remove_copy(port, self.copy_node_of(port));
+            self.remove_copy(port, self.copy_node_of(port));
         }
-        self
     }
 
-    // The graph with another lower graph, in which a node has other counts: the marks move with its ports.
-    #[tactic(auto, unfolding(crate::specs::HiddenNodes::recounted))]
-    pub(crate) fn recounted(mut self, node: u32, graph: PortGraph) -> MultiPortGraph
-        requires { Wf self.graph × Wf graph }
-        ensures { result ≡ recounted self node graph }
+    // `count` ports from `first` on lose their hidden nodes, the first one first. Counts from 0: the definition goes by the number of
+    // ports, and a range of the ports is no plainer.
+    #[tactic(auto, unfolding(crate::specs::HiddenNodes::unsplit_range))]
+    pub(crate) fn unsplit_range(&mut self, first: u32, count: usize)
+        requires { Wf self.old.graph × (first + count ≤ port_slots) }
+        ensures { self.new ≡ unsplit_range self.old first count }
     {
-        let before = self.graph;
-        self.graph = graph;
-        let found = before.node_meta_valid(NodeIndex(node));
-        if let (Some(a), Some(b)) = (found, graph.node_meta_valid(NodeIndex(node))) {
-            let recount = Recount {
-                before: a,
-                after: b,
-            };
+        for k in 0..count {
+            self.unsplit(first + k as u32);
+        }
+    }
+
+    // A hidden node whose split port is gone already.
+    #[tactic(auto, unfolding(crate::specs::HiddenNodes::remove_lone))]
+    fn remove_lone(&mut self, node: u32)
+        requires { Wf self.old.graph }
+        ensures { self.new ≡ remove_lone self.old node }
+    {
+        let copy = port_of(&self.graph, node, self.copy_side(node), 0);
+        self.remove_copy(copy, node);
+    }
+
+    // The hidden nodes of a list go, in order; the ports that they hung on are gone already.
+    #[tactic(auto, unfolding(crate::specs::HiddenNodes::remove_all), using(crate::specs::BlockSteps::remove_turn, crate::specs::BlockSteps::wf_lone_is))]
+    pub(crate) fn remove_all(&mut self, list: &[u32])
+        requires { Wf self.old.graph }
+        ensures { self.new ≡ remove_all self.old list.now }
+    {
+        for node in list {
+            self.remove_lone(*node);
+        }
+    }
+
+    // The single-link graph has other counts for a node than these meta data: the marks move with its ports.
+    pub(crate) fn recount(&mut self, node: NodeIndex, before: NodeMeta)
+        requires { Wf self.old.graph × BlockFits before }
+        ensures { self.new ≡ with_marks self.old (marks_moved self.old.multiport (Some before) (meta_at self.old.graph node.0)) }
+    {
+        if let Some(after) = self.graph.node_meta_valid(node) {
+            let recount = Recount { before, after };
             recount.lay_marks(&mut self.multiport);
         }
-        self
+    }
+
+    // Lists the hidden nodes of `count` ports from `first` on, in order, at a list's front, and answers how many: the list is lent, so that nobody has to clear one
+    // of his own.
+    // The place in the list is counted by hand: only split ports take one.
+    fn copies_in(&self, list: &mut [u32], first: usize, count: usize) -> usize
+        requires { (first + count ≤ port_slots) × (count ≤ length list.old) }
+        ensures { (result ≡ length (copies_in self.now first count)) × (list.new ≡ sets list.old 0 (copies_in self.now first count)) × (result ≤ count) }
+    {
+        let mut place: usize = 0;
+        for (k, split) in self.multiport[first..first + count].iter().enumerate() {
+            if *split {
+                list[place] = self.copy_node_of((first + k) as u32);
+                place += 1;
+            }
+        }
+        place
+    }
+
+    // Lists the hidden nodes of the ports that are dropped, in the order in which these are reported, and answers how many.
+    pub(crate) fn copies_dropped(&self, list: &mut [u32], resize: Resize) -> usize
+        requires { BlockFits resize.meta × (dropped resize.meta resize.incoming resize.outgoing ≤ length list.old) }
+        ensures { (result ≡ length (copies_dropped self.now resize.meta resize.incoming resize.outgoing)) × (list.new ≡ sets list.old 0 (copies_dropped self.now resize.meta resize.incoming resize.outgoing)) }
+    {
+        let meta = resize.meta;
+        let first = meta.first();
+        let old_in = meta.incoming();
+        let old_out = meta.outgoing();
+        let kept_in = resize.kept_incoming();
+        let kept_out = resize.kept_outgoing();
+        let middle = self.copies_in(list, first + kept_in, old_in - kept_in);
+        let last = first + old_in + kept_out;
+        middle + self.copies_in(&mut list[middle..], last, old_out - kept_out)
     }
 }

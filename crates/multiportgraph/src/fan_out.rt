@@ -14,7 +14,8 @@ use port_tables::direction::Direction;
 use port_tables::index::{NodeIndex, PORT_SLOTS, PortIndex};
 use port_tables::sides::{Sides, ports_from, ports_to};
 
-// The sum of the fan-outs of the outgoing ports from `from` on and below `end`.
+// The sum of the fan-outs of the outgoing ports from `from` on and below `end`. Stays a loop: that the sum fits is told of the sum so far, of which a closure's
+// contract could not speak; no plainer.
 fn fan_out_sum(tables: WireTables<'_>, from: usize, end: usize) -> usize
     ensures { result ≡ fan_out_in tables.entry.marks.now tables.entry.links.now tables.entry.owners.now from (min end port_slots - from) }
 {
@@ -31,23 +32,21 @@ fn fan_out_sum(tables: WireTables<'_>, from: usize, end: usize) -> usize
 
 impl MultiPortGraph {
     // How many wires a port has, on either side; 0 for one that is not linked.
-    pub fn port_fan_out(self, port: PortIndex) -> Result<usize, Refusal>
-        requires { MultiWf self }
-        ensures { (result ≡ port_fan_out self port.0) × (count_numbers result ≡ count_numbers (port_fan_out self port.0)) }
+    pub fn port_fan_out(&self, port: PortIndex) -> Result<usize, Refusal>
+        requires { MultiWf self.now }
+        ensures { (result ≡ port_fan_out self.now port.0) × (count_numbers result ≡ count_numbers (port_fan_out self.now port.0)) }
     {
         let (_, side) = self.block_port(port)?;
         Ok(
-            self.wire_tables().wires_at(SidedPort {
-                port: port.0,
-                side: side,
-            }),
+            self.wire_tables()
+                .wires_at(SidedPort { port: port.0, side }),
         )
     }
 
     // How many wires leave a block: the sum of the fan-outs of its outgoing ports.
-    pub fn node_fan_out(self, node: NodeIndex) -> Result<usize, Refusal>
-        requires { MultiWf self }
-        ensures { (result ≡ node_fan_out self node.0) × (count_numbers result ≡ count_numbers (node_fan_out self node.0)) }
+    pub fn node_fan_out(&self, node: NodeIndex) -> Result<usize, Refusal>
+        requires { MultiWf self.now }
+        ensures { (result ≡ node_fan_out self.now node.0) × (count_numbers result ≡ count_numbers (node_fan_out self.now node.0)) }
     {
         let meta = self.block(node)?;
         let side = Sides::One(Direction::Outgoing);

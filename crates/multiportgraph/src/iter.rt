@@ -22,6 +22,7 @@ pub struct Ports {
 }
 
 // A walk over the ports of a block.
+// Stays beside that of portgraph, as the walks below: each steps over its own graph. Their fields stay flat, as there.
 #[derive(Clone, Copy)]
 pub struct NodePorts {
     pub node: NodeIndex,
@@ -39,6 +40,7 @@ pub struct NodeSubports {
 
 // A walk over the links of a port, from either end: the offsets given last from the front and from the back, each one higher,
 // with 0 for none.
+// Numbers, as the ports held above.
 #[derive(Clone, Copy)]
 pub struct PortLinks {
     pub port: PortIndex,

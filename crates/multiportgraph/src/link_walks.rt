@@ -18,6 +18,7 @@ use port_tables::sides::{Sides, ports_from, ports_to};
 use port_tables::tables::owner_in;
 
 // What a cursor holds that gave this subport, or a link from it, last.
+// Stays a function: it asks that the port lies within the tables, which `From` could not.
 pub(crate) fn held_at(subport: SubportIndex) -> Held
     requires { subport.port.0 < port_slots }
     ensures { result ≡ held_at subport }
@@ -33,14 +34,14 @@ impl MultiPortGraph {
     // The first link of a block beyond what a cursor holds; none where the block or the port held is gone or hidden.
     #[tactic(auto, using(crate::specs::WalkSteps::both_refused, crate::specs::WalkSteps::both_found, crate::specs::LinkWalkSteps::left_gone))]
     fn next_of_block(
-        self,
+        &self,
         node: NodeIndex,
         sides: Sides,
         filter: LinkFilter,
         held: Held,
     ) -> Option<SubportLink>
-        requires { MultiWf self }
-        ensures { (result ≡ first_found (block_left self node.0 sides filter held.port held.offset)) × (link_port 0 result < port_slots) }
+        requires { MultiWf self.now }
+        ensures { (result ≡ first_found (block_left self.now node.0 sides filter held.port held.offset)) × (link_port 0 result < port_slots) }
     {
         let meta = self.block(node).ok()?;
         if !self.held_seen(held.port) {
@@ -51,9 +52,9 @@ impl MultiPortGraph {
 }
 
 impl NodeLinks {
-    pub fn step(self, graph: MultiPortGraph) -> Option<(SubportLink, NodeLinks)>
-        requires { MultiWf graph }
-        ensures { (result ≡ step_links graph self) × (node_links_values result ≡ node_links_values (step_links graph self)) }
+    pub fn step(self, graph: &MultiPortGraph) -> Option<(SubportLink, NodeLinks)>
+        requires { MultiWf graph.now }
+        ensures { (result ≡ step_links graph.now self) × (node_links_values result ≡ node_links_values (step_links graph.now self)) }
     {
         let filter = LinkFilter::Skip(self.skip);
         let link = graph.next_of_block(self.node, self.sides, filter, self.held)?;
@@ -80,16 +81,16 @@ fn self_filter(node: NodeIndex, ignore_self: bool) -> LinkFilter
 
 impl Neighbours {
     #[tactic(auto, using(crate::specs::LinkWalkSteps::neighbours_item_lem, crate::specs::LinkWalkSteps::neighbours_none))]
-    pub fn step(self, graph: MultiPortGraph) -> Option<(NodeIndex, Neighbours)>
-        requires { MultiWf graph }
-        ensures { (result ≡ step_neighbours graph self) × (neighbours_values result ≡ neighbours_values (step_neighbours graph self)) }
+    pub fn step(self, graph: &MultiPortGraph) -> Option<(NodeIndex, Neighbours)>
+        requires { MultiWf graph.now }
+        ensures { (result ≡ step_neighbours graph.now self) × (neighbours_values result ≡ neighbours_values (step_neighbours graph.now self)) }
     {
         let filter = self_filter(self.node, self.ignore_self);
         let link = graph.next_of_block(self.node, self.sides, filter, self.held)?;
         let to = link.to;
         let far = to.port;
         Some((
-            NodeIndex(owner_in(&graph.graph.port_meta, far.0)),
+            NodeIndex(owner_in(graph.graph.owner_table(), far.0)),
             Neighbours {
                 held: held_at(link.from),
                 ..self
@@ -100,9 +101,9 @@ impl Neighbours {
 
 impl NodeConnections {
     #[tactic(auto, using(crate::specs::LinkWalkSteps::connections_gone, crate::specs::LinkWalkSteps::connections_none))]
-    pub fn step(self, graph: MultiPortGraph) -> Option<(SubportLink, NodeConnections)>
-        requires { MultiWf graph }
-        ensures { (result ≡ step_connections graph self) × (node_connections_values result ≡ node_connections_values (step_connections graph self)) }
+    pub fn step(self, graph: &MultiPortGraph) -> Option<(SubportLink, NodeConnections)>
+        requires { MultiWf graph.now }
+        ensures { (result ≡ step_connections graph.now self) × (node_connections_values result ≡ node_connections_values (step_connections graph.now self)) }
     {
         if !graph.contains_node(self.target) {
             return None;

@@ -1,19 +1,15 @@
-// All blocks of a lent graph in one pass, by ascending number: number, incoming and outgoing ports, first port.
+// All blocks of a graph in one pass, by ascending number: number, incoming and outgoing ports, first port.
 ghost use Rattle.std.specs.Prelude.{◌≡◌, ◌+◌, ◌*◌, ◌≤◌, length};
 ghost use Rattle.std.proofs.lemmas.List.Edits.{sets};
 ghost use Rattle.port_tables.specs.Limits.{node_slots};
-ghost use Rattle.multiportgraph.specs.WellFormed.{MultiWf};
-ghost use Rattle.multiportgraph.specs.MultiLent.{graph_of};
-ghost use Rattle.multiportgraph.specs.Wires.{blocks};
-ghost use Rattle.multiportgraph.specs.Listed.{blocks_listed, list_after, list_answer};
+ghost use Rattle.multiportgraph.specs.Listed.{list_after, list_answer};
 ghost use Rattle.multiportgraph.specs.ListScans.{port_of_meta, node_block, table_blocks};
 
-use crate::lent_graph::LentGraph;
 use crate::list_ends::{ListTables, TooShort, put_front};
 use port_tables::node_entry::NodeMeta;
 use port_tables::numbers::wide;
 
-// The first port of a block; 0 for a block without ports.
+// The first port of a block; 0 for a block without ports. Stays a number: a listing has it.
 #[tactic(auto, unfolding(crate::specs::ListScans::port_of_meta))]
 fn port_of_meta(meta: NodeMeta) -> u32
     ensures { result ≡ port_of_meta meta }
@@ -39,12 +35,18 @@ impl ListTables<'_> {
         let first = port_of_meta(meta);
         put_front(
             list,
-            &[node, meta.incoming as u32, meta.outgoing as u32, first],
+            &[
+                node,
+                u32::from(meta.incoming),
+                u32::from(meta.outgoing),
+                first,
+            ],
         );
         4
     }
 
     // Lists the blocks of all used node slots, from the list's start on.
+    // Stays a loop, as those of `list_wires`, and beside that over the same slots: what is written of each is its own.
     fn list_slots(self, list: &mut [u32])
         requires { (self.len ≤ node_slots) × (length (table_blocks self.nodes.now self.wires.flags.now self.len) ≤ length list.old) }
         ensures { list.new ≡ sets list.old 0 (table_blocks self.entry.nodes.now self.entry.wires.flags.now self.entry.len) }
@@ -66,17 +68,5 @@ impl ListTables<'_> {
         }
         self.list_slots(list);
         Ok(count)
-    }
-}
-
-impl LentGraph {
-    // MultiPortGraph::list_blocks over a lent graph.
-    pub fn list_blocks(&self, list: &mut [u32]) -> Result<usize, TooShort>
-        requires { MultiWf (graph_of self.now) }
-        ensures { (result ≡ list_answer (length (blocks (graph_of self.now))) (blocks_listed (graph_of self.now)) list.old)
-            × (list.new ≡ list_after (blocks_listed (graph_of self.now)) list.old) }
-    {
-        let count = self.node_count();
-        self.list_tables().list_blocks(count, list)
     }
 }

@@ -1,15 +1,17 @@
 // What a listing answers and writes: numbers in a row, four for an end of a wire. The ends are read off the tables with no search.
+// They stay numbers: the list is the caller's, as the move list is.
 ghost use Rattle.std.specs.Prelude.{◌≡◌, ◌+◌, ◌-◌, ◌≤◌, length};
 ghost use Rattle.std.proofs.lemmas.List.Edits.{sets};
-ghost use Rattle.port_tables.specs.NodeWords.{meta_in};
+ghost use Rattle.port_tables.specs.NodeTable.{meta_in};
 ghost use Rattle.port_tables.specs.Limits.{node_slots};
 ghost use Rattle.multi_tables.specs.Forms.{flag_at};
 ghost use Rattle.multiportgraph.specs.ListScans.{shown_meta, first_of_meta, in_end, far_end};
 
 use multi_tables::marks::flagged;
 use multi_tables::wire_tables::WireTables;
-use port_tables::lent::{NODE_WORDS, meta_in};
-use port_tables::node_entry::NodeMeta;
+use port_tables::index::NODE_SLOTS;
+use port_tables::node_entry::{NodeMeta, NodeSlot};
+use port_tables::node_table::meta_in;
 use port_tables::numbers::wide;
 use port_tables::tables::{far_in, owner_in};
 
@@ -17,10 +19,11 @@ use port_tables::tables::{far_in, owner_in};
 #[derive(Clone, Copy)]
 pub struct TooShort(pub usize);
 
-// The tables that a listing reads, and how many slots of the node table have been used.
+// The tables that a listing reads, and how many slots of the node table have been used. That they fit stays a clause: the definitions read any tables, and the
+// types of a listing would carry what MultiWf says once more; no plainer.
 #[derive(Clone, Copy)]
 pub(crate) struct ListTables<'a> {
-    pub(crate) nodes: &'a [u32; NODE_WORDS],
+    pub(crate) nodes: &'a [NodeSlot; NODE_SLOTS],
     pub(crate) wires: WireTables<'a>,
     pub(crate) len: usize,
 }
@@ -35,8 +38,8 @@ pub struct WireEnd {
     pub position: u32,
 }
 
-// The first port of a node; 0 for a node that is not live.
-fn first_of(nodes: &[u32; NODE_WORDS], node: u32) -> u32
+// The first port of a node; 0 for a node that is not live, which no caller asks for.
+fn first_of(nodes: &[NodeSlot; NODE_SLOTS], node: u32) -> u32
     ensures { result ≡ first_of_meta (meta_in nodes.now node) }
 {
     meta_in(nodes, node).map_or(0, |meta| meta.first_port.0)
@@ -60,9 +63,9 @@ impl ListTables<'_> {
     {
         let node = owner_in(self.wires.owners, port);
         WireEnd {
-            port: port,
-            offset: offset,
-            node: node,
+            port,
+            offset,
+            node,
             position: port.saturating_sub(first_of(self.nodes, node)),
         }
     }
@@ -76,7 +79,7 @@ impl ListTables<'_> {
         match meta_in(self.nodes, node) {
             Some(meta) if flagged(self.wires.flags, wide(node)) => {
                 let first = meta.first_port.0;
-                let main = far_in(self.wires.links, wide(first) + usize::from(meta.incoming));
+                let main = far_in(self.wires.links, wide(first) + meta.incoming());
                 self.in_end(main, inner.saturating_sub(first))
             }
             _ => self.in_end(inner, 0),

@@ -1,19 +1,15 @@
-// All wires of a lent graph in one pass: block after block, the wires of its outgoing ports, as many of a split port as it has.
+// All wires of a graph in one pass: block after block, the wires of its outgoing ports, as many of a split port as it has.
 ghost use Rattle.std.specs.Prelude.{◌≡◌, ◌+◌, ◌*◌, ◌≤◌, ◌<◌, length};
 ghost use Rattle.std.proofs.lemmas.List.Edits.{sets};
 ghost use Rattle.port_tables.specs.Limits.{node_slots, node_ports};
 ghost use Rattle.port_tables.specs.ResizeLinks.{BlockFits};
-ghost use Rattle.multiportgraph.specs.WellFormed.{MultiWf};
-ghost use Rattle.multiportgraph.specs.MultiLent.{graph_of};
-ghost use Rattle.multiportgraph.specs.Wires.{all_wires};
-ghost use Rattle.multiportgraph.specs.Listed.{wires_listed, list_after, list_answer};
+ghost use Rattle.multiportgraph.specs.Listed.{list_after, list_answer};
 ghost use Rattle.multiportgraph.specs.ListScans.{slot_wire, split_wires, port_wires, side_wires, node_wires, table_wires, AllFit};
 
-use crate::lent_graph::LentGraph;
 use crate::list_ends::{ListTables, TooShort, WireEnd, put_front};
 use multi_tables::marks::flagged;
-use port_tables::lent::meta_in;
 use port_tables::node_entry::NodeMeta;
+use port_tables::node_table::meta_in;
 use port_tables::numbers::wide;
 use port_tables::tables::{at, far_in, owner_in};
 
@@ -25,11 +21,10 @@ impl ListTables<'_> {
         ensures { (result ≡ length (slot_wire self.entry.nodes.now self.entry.wires.links.now self.entry.wires.owners.now self.entry.wires.flags.now from slot))
             × (list.new ≡ sets list.old 0 (slot_wire self.entry.nodes.now self.entry.wires.links.now self.entry.wires.owners.now self.entry.wires.flags.now from slot)) }
     {
-        let far = at(self.wires.links, slot);
-        if far == 0 {
+        let Some(far) = at(self.wires.links, slot).checked_sub(1) else {
             return 0;
-        }
-        let to = self.far_end(far - 1);
+        };
+        let to = self.far_end(far);
         put_front(
             list,
             &[
@@ -47,13 +42,14 @@ impl ListTables<'_> {
     }
 
     // Lists the wires of a split port, by its hidden node; answers how many numbers that took.
+    // Stays a loop, as those below: each turn writes where the one before ended, and a closure would have to hold the list and that place; no plainer.
     fn list_split(self, list: &mut [u32], port: WireEnd, copy: NodeMeta) -> usize
         requires { length (split_wires self.nodes.now self.wires.links.now self.wires.owners.now self.wires.flags.now port.port port.node port.position copy) ≤ length list.old }
         ensures { (result ≡ length (split_wires self.entry.nodes.now self.entry.wires.links.now self.entry.wires.owners.now self.entry.wires.flags.now port.port port.node port.position copy))
             × (list.new ≡ sets list.old 0 (split_wires self.entry.nodes.now self.entry.wires.links.now self.entry.wires.owners.now self.entry.wires.flags.now port.port port.node port.position copy)) }
     {
-        let first = wide(copy.first_port.0) + usize::from(copy.incoming);
-        let count = usize::from(copy.outgoing);
+        let first = copy.first() + copy.incoming();
+        let count = copy.outgoing();
         let mut next: usize = 0;
         for offset in 0..count {
             let from = WireEnd {
@@ -89,14 +85,14 @@ impl ListTables<'_> {
         ensures { (result ≡ length (side_wires self.entry.nodes.now self.entry.wires.links.now self.entry.wires.owners.now self.entry.wires.marks.now self.entry.wires.flags.now node meta))
             × (list.new ≡ sets list.old 0 (side_wires self.entry.nodes.now self.entry.wires.links.now self.entry.wires.owners.now self.entry.wires.marks.now self.entry.wires.flags.now node meta)) }
     {
-        let first = wide(meta.first_port.0) + usize::from(meta.incoming);
-        let count = usize::from(meta.outgoing);
+        let first = meta.first() + meta.incoming();
+        let count = meta.outgoing();
         let mut next: usize = 0;
         for position in 0..count {
             let from = WireEnd {
                 port: (first + position) as u32,
                 offset: 0,
-                node: node,
+                node,
                 position: position as u32,
             };
             next += self.list_port(&mut list[next..], from);
@@ -139,17 +135,5 @@ impl ListTables<'_> {
         }
         self.list_nodes(list);
         Ok(count)
-    }
-}
-
-impl LentGraph {
-    // MultiPortGraph::list_wires over a lent graph.
-    pub fn list_wires(&self, list: &mut [u32]) -> Result<usize, TooShort>
-        requires { MultiWf (graph_of self.now) }
-        ensures { (result ≡ list_answer (length (all_wires (graph_of self.now))) (wires_listed (graph_of self.now)) list.old)
-            × (list.new ≡ list_after (wires_listed (graph_of self.now)) list.old) }
-    {
-        let count = self.link_count();
-        self.list_tables().list_wires(count, list)
     }
 }

@@ -18,8 +18,8 @@ use port_tables::numbers::wide;
 impl MultiPortGraph {
     // A block's meta data, or why the node is refused.
     #[tactic(auto, unfolding(crate::specs::CodeForms::block_found), using(crate::specs::CodeFormSteps::hidden_told))]
-    pub(crate) fn block(self, node: NodeIndex) -> Result<NodeMeta, Refusal>
-        ensures { result ≡ block_found self node.0 }
+    pub(crate) fn block(&self, node: NodeIndex) -> Result<NodeMeta, Refusal>
+        ensures { result ≡ block_found self.now node.0 }
     {
         let found = self.graph.node_meta_valid(node);
         let meta = found.ok_or(Refusal::UnknownNode)?;
@@ -37,56 +37,56 @@ impl MultiPortGraph {
     }
 
     // The side of a port.
-    pub fn port_direction(self, port: PortIndex) -> Result<Direction, Refusal>
-        ensures { (result ≡ direction_of self port.0) × (direction_numbers result ≡ direction_numbers (direction_of self port.0)) }
+    pub fn port_direction(&self, port: PortIndex) -> Result<Direction, Refusal>
+        ensures { (result ≡ direction_of self.now port.0) × (direction_numbers result ≡ direction_numbers (direction_of self.now port.0)) }
     {
         let (_, direction) = self.block_port(port)?;
         Ok(direction)
     }
 
     // The block that has a port.
-    pub fn port_node(self, port: PortIndex) -> Result<NodeIndex, Refusal>
-        ensures { (result ≡ node_of self port.0) × (node_numbers result ≡ node_numbers (node_of self port.0)) }
+    pub fn port_node(&self, port: PortIndex) -> Result<NodeIndex, Refusal>
+        ensures { (result ≡ node_of self.now port.0) × (node_numbers result ≡ node_numbers (node_of self.now port.0)) }
     {
         let (node, _) = self.block_port(port)?;
         Ok(node)
     }
 
     // The side and position of a port.
-    pub fn port_offset(self, port: PortIndex) -> Result<PortOffset, Refusal>
-        ensures { (result ≡ offset_of self port.0) × (offset_numbers result ≡ offset_numbers (offset_of self port.0)) }
+    pub fn port_offset(&self, port: PortIndex) -> Result<PortOffset, Refusal>
+        ensures { (result ≡ offset_of self.now port.0) × (offset_numbers result ≡ offset_numbers (offset_of self.now port.0)) }
     {
         let (_, direction) = self.block_port(port)?;
         Ok(PortOffset {
-            direction: direction,
-            index: position_of(self.graph, port.0),
+            direction,
+            index: position_of(&self.graph, port.0),
         })
     }
 
     // The port at a side and position of a block.
     pub fn port_index(
-        self,
+        &self,
         node: NodeIndex,
         offset: PortOffset,
     ) -> Result<Option<PortIndex>, Refusal>
-        requires { MultiWf self }
-        ensures { (result ≡ port_index_of self node.0 offset) × (port_numbers result ≡ port_numbers (port_index_of self node.0 offset)) }
+        requires { MultiWf self.now }
+        ensures { (result ≡ port_index_of self.now node.0 offset) × (port_numbers result ≡ port_numbers (port_index_of self.now node.0 offset)) }
     {
         self.block(node)?;
         Ok(self.graph.port_index(node, offset))
     }
 
     // The number of ports of a block on one side.
-    pub fn num_ports(self, node: NodeIndex, direction: Direction) -> Result<usize, Refusal>
-        ensures { (result ≡ num_ports_of self node.0 direction) × (count_numbers result ≡ count_numbers (num_ports_of self node.0 direction)) }
+    pub fn num_ports(&self, node: NodeIndex, direction: Direction) -> Result<usize, Refusal>
+        ensures { (result ≡ num_ports_of self.now node.0 direction) × (count_numbers result ≡ count_numbers (num_ports_of self.now node.0 direction)) }
     {
         let meta = self.block(node)?;
         Ok(meta.num_ports(direction))
     }
 
     // The slots of a block's ports.
-    pub fn node_port_capacity(self, node: NodeIndex) -> Result<usize, Refusal>
-        ensures { (result ≡ capacity_of self node.0) × (count_numbers result ≡ count_numbers (capacity_of self node.0)) }
+    pub fn node_port_capacity(&self, node: NodeIndex) -> Result<usize, Refusal>
+        ensures { (result ≡ capacity_of self.now node.0) × (count_numbers result ≡ count_numbers (capacity_of self.now node.0)) }
     {
         let meta = self.block(node)?;
         Ok(meta.capacity())
@@ -94,23 +94,23 @@ impl MultiPortGraph {
 
     // Whether a node is a block.
     #[tactic(auto, using(crate::specs::LookupSteps::block_at))]
-    pub fn contains_node(self, node: NodeIndex) -> bool
-        ensures { result ≡ is_block self node.0 }
+    pub fn contains_node(&self, node: NodeIndex) -> bool
+        ensures { result ≡ is_block self.now node.0 }
     {
         self.block(node).is_ok()
     }
 
     // Whether a port is a block's.
-    pub fn contains_port(self, port: PortIndex) -> bool
-        ensures { result ≡ contains_port_of self port.0 }
+    pub fn contains_port(&self, port: PortIndex) -> bool
+        ensures { result ≡ contains_port_of self.now port.0 }
     {
         self.block_port(port).is_ok()
     }
 
     // Whether there is no node and no port.
     #[tactic(auto, unfolding(crate::specs::Lookups::empty_of))]
-    pub fn is_empty(self) -> bool
-        ensures { result ≡ empty_of self }
+    pub fn is_empty(&self) -> bool
+        ensures { result ≡ empty_of self.now }
     {
         self.graph.is_empty()
     }

@@ -9,6 +9,7 @@ use portgraph::portgraph::PortGraph;
 
 // A port graph, by value, that allows several links at one port. MultiWf stays a clause of the calls: their steps run on graphs that are halfway, for which an
 // invariant would need a type of their own.
+// The marks and flags stay tables of their own, as the Rust portgraph's.
 #[derive(Clone, Copy)]
 pub struct MultiPortGraph {
     pub(crate) graph: PortGraph,
@@ -24,14 +25,21 @@ pub struct MultiPortGraph {
 }
 
 impl MultiPortGraph {
+    // The single-link graph, hidden nodes and their ports included. The Rust portgraph has it under this name.
+    pub fn as_portgraph(&self) -> &PortGraph
+        ensures { result.now ≡ self.now.graph }
+    {
+        &self.graph
+    }
+
     // The tables that tell what a port is and what it is wired with.
     pub(crate) fn wire_tables(&self) -> WireTables<'_>
         ensures { (result.marks.now ≡ self.now.multiport) × (result.links.now ≡ self.now.graph.port_link) × (result.owners.now ≡ self.now.graph.port_meta) × (result.flags.now ≡ self.now.copy_node) }
     {
         WireTables {
             marks: &self.multiport,
-            links: &self.graph.port_link,
-            owners: &self.graph.port_meta,
+            links: self.graph.link_table(),
+            owners: self.graph.owner_table(),
             flags: &self.copy_node,
         }
     }

@@ -16,7 +16,7 @@ use multi_tables::wire_tables::WireTables;
 use port_tables::direction::Direction;
 use port_tables::numbers::wide;
 
-// The last link at these ends.
+// The last link at these ends. Stays a loop, as `scan_port` from the front.
 #[tactic(auto, using(crate::specs::LinkWalkSteps::back_link, crate::specs::LinkWalkSteps::back_link_turn, crate::specs::LinkWalkSteps::back_link_none))]
 fn scan_back(tables: WireTables<'_>, ends: PortEnds) -> Option<SubportLink>
     ensures { result ≡ last_found (links_in tables.entry.links.now tables.entry.owners.now tables.entry.flags.now ends.port ends.first ends.from (ends.end - ends.from)) }
@@ -58,6 +58,7 @@ impl PortLinks {
     }
 
     // The first link at them.
+    // Stays beside `last_left`, as `step` beside `step_back`.
     #[tactic(auto, unfolding(crate::specs::WalkScans::left_in), using(crate::specs::LinkWalkSteps::left_first))]
     fn first_left(self, tables: WireTables<'_>, direction: Direction) -> Option<SubportLink>
         ensures { result ≡ first_found (left_in tables.entry.marks.now tables.entry.links.now tables.entry.owners.now tables.entry.flags.now self.port.0 direction self.front self.back) }
@@ -72,12 +73,11 @@ impl PortLinks {
     {
         scan_back(tables, self.ends_left(tables, direction))
     }
-}
 
-impl PortLinks {
-    pub fn step(self, graph: MultiPortGraph) -> Option<(SubportLink, PortLinks)>
-        requires { MultiWf graph }
-        ensures { (result ≡ step_front graph self) × (port_links_values result ≡ port_links_values (step_front graph self)) }
+    // Two methods, as next and next_back of the library's iterators.
+    pub fn step(self, graph: &MultiPortGraph) -> Option<(SubportLink, PortLinks)>
+        requires { MultiWf graph.now }
+        ensures { (result ≡ step_front graph.now self) × (port_links_values result ≡ port_links_values (step_front graph.now self)) }
     {
         let (_, direction) = graph.block_port(self.port).ok()?;
         let link = self.first_left(graph.wire_tables(), direction)?;
@@ -85,15 +85,16 @@ impl PortLinks {
         Some((
             link,
             PortLinks {
+                // The cast stays, as in `step_back`: of `from` each answer would carry the clause to the number; no plainer.
                 front: from.subport_offset as u32 + 1,
                 ..self
             },
         ))
     }
 
-    pub fn step_back(self, graph: MultiPortGraph) -> Option<(SubportLink, PortLinks)>
-        requires { MultiWf graph }
-        ensures { (result ≡ step_back graph self) × (port_links_values result ≡ port_links_values (step_back graph self)) }
+    pub fn step_back(self, graph: &MultiPortGraph) -> Option<(SubportLink, PortLinks)>
+        requires { MultiWf graph.now }
+        ensures { (result ≡ step_back graph.now self) × (port_links_values result ≡ port_links_values (step_back graph.now self)) }
     {
         let (_, direction) = graph.block_port(self.port).ok()?;
         let link = self.last_left(graph.wire_tables(), direction)?;

@@ -16,21 +16,21 @@ use port_tables::sides::Sides;
 
 impl MultiPortGraph {
     // Starts a walk over the blocks.
-    pub fn nodes_iter(self) -> Nodes
+    pub fn nodes_iter(&self) -> Nodes
         ensures { (result.front ≡ 0) × (result.back ≡ 0) }
     {
         Nodes { front: 0, back: 0 }
     }
 
     // Starts a walk over all ports of blocks.
-    pub fn ports_iter(self) -> Ports
+    pub fn ports_iter(&self) -> Ports
         ensures { (result.front ≡ 0) × (result.back ≡ 0) }
     {
         Ports { front: 0, back: 0 }
     }
 
     // Starts a walk over all wires.
-    pub fn wires(self) -> Wires
+    pub fn wires(&self) -> Wires
         ensures { result ≡ start_wires }
     {
         Wires {
@@ -39,79 +39,87 @@ impl MultiPortGraph {
     }
 
     // Starts a walk over the ports of a block on one side or both.
-    pub fn ports(self, node: NodeIndex, sides: Sides) -> Result<NodePorts, Refusal>
-        ensures { (result ≡ start_node_ports self node sides) × (node_ports_start_numbers result ≡ node_ports_start_numbers (start_node_ports self node sides)) }
+    pub fn ports(&self, node: NodeIndex, sides: Sides) -> Result<NodePorts, Refusal>
+        ensures { (result ≡ start_node_ports self.now node sides) × (node_ports_start_numbers result ≡ node_ports_start_numbers (start_node_ports self.now node sides)) }
     {
         self.block(node)?;
         Ok(NodePorts {
-            node: node,
-            sides: sides,
+            node,
+            sides,
             held: 0,
         })
     }
 
     // Starts a walk over the subports of a block on one side or both.
-    pub fn subports(self, node: NodeIndex, sides: Sides) -> Result<NodeSubports, Refusal>
-        ensures { (result ≡ start_subports self node sides) × (node_subports_start_numbers result ≡ node_subports_start_numbers (start_subports self node sides)) }
+    pub fn subports(&self, node: NodeIndex, sides: Sides) -> Result<NodeSubports, Refusal>
+        ensures { (result ≡ start_subports self.now node sides) × (node_subports_start_numbers result ≡ node_subports_start_numbers (start_subports self.now node sides)) }
     {
         self.block(node)?;
         Ok(NodeSubports {
-            node: node,
-            sides: sides,
+            node,
+            sides,
             held: Held::default(),
         })
     }
 
     // Starts a walk over the links of a port.
-    pub fn port_links(self, port: PortIndex) -> Result<PortLinks, Refusal>
-        ensures { (result ≡ start_port_links self port) × (port_links_start_numbers result ≡ port_links_start_numbers (start_port_links self port)) }
+    pub fn port_links(&self, port: PortIndex) -> Result<PortLinks, Refusal>
+        ensures { (result ≡ start_port_links self.now port) × (port_links_start_numbers result ≡ port_links_start_numbers (start_port_links self.now port)) }
     {
         self.block_port(port)?;
         Ok(PortLinks {
-            port: port,
+            port,
             front: 0,
             back: 0,
         })
     }
 
     // Starts a walk over the links of a block; links to the ports of a range are left out.
-    pub fn links(self, node: NodeIndex, sides: Sides, skip: PortRange) -> Result<NodeLinks, Refusal>
-        ensures { (result ≡ start_links self node sides skip.from skip.to) × (node_links_start_numbers result ≡ node_links_start_numbers (start_links self node sides skip.from skip.to)) }
+    pub fn links(
+        &self,
+        node: NodeIndex,
+        sides: Sides,
+        skip: PortRange,
+    ) -> Result<NodeLinks, Refusal>
+        ensures { (result ≡ start_links self.now node sides skip.from skip.to) × (node_links_start_numbers result ≡ node_links_start_numbers (start_links self.now node sides skip.from skip.to)) }
     {
         self.block(node)?;
         Ok(NodeLinks {
-            node: node,
-            sides: sides,
-            skip: skip,
+            node,
+            sides,
+            skip,
             held: Held::default(),
         })
     }
 
     // Starts a walk over the neighbours of a block; with the flag, links to its own outgoing ports are left out.
     pub fn neighbours(
-        self,
+        &self,
         node: NodeIndex,
         sides: Sides,
         ignore_self: bool,
     ) -> Result<Neighbours, Refusal>
-        ensures { (result ≡ start_neighbours self node sides ignore_self) × (neighbours_start_numbers result ≡ neighbours_start_numbers (start_neighbours self node sides ignore_self)) }
+        ensures { (result ≡ start_neighbours self.now node sides ignore_self) × (neighbours_start_numbers result ≡ neighbours_start_numbers (start_neighbours self.now node sides ignore_self)) }
     {
         self.block(node)?;
         Ok(Neighbours {
-            node: node,
-            sides: sides,
-            ignore_self: ignore_self,
+            node,
+            sides,
+            ignore_self,
             held: Held::default(),
         })
     }
 
     // Starts a walk over the links from one block's outgoing side to another block.
     #[tactic(auto, unfolding(crate::specs::Walks::start_between), using(crate::specs::StartSteps::start_hidden, crate::specs::StartSteps::start_visible))]
-    pub fn get_connections(self, from: NodeIndex, to: NodeIndex) -> Result<NodeConnections, Refusal>
-        ensures { (result ≡ start_connections self from to) × (node_connections_start_numbers result ≡ node_connections_start_numbers (start_connections self from to)) }
+    pub fn get_connections(
+        &self,
+        from: NodeIndex,
+        to: NodeIndex,
+    ) -> Result<NodeConnections, Refusal>
+        ensures { (result ≡ start_connections self.now from to) × (node_connections_start_numbers result ≡ node_connections_start_numbers (start_connections self.now from to)) }
     {
-        let graph = self.graph;
-        if !graph.contains_node(from) || !graph.contains_node(to) {
+        if !self.graph.contains_node(from) || !self.graph.contains_node(to) {
             return Err(Refusal::UnknownNode);
         }
         if either_flagged(&self.copy_node, from.0, to.0) {

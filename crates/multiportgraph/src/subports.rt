@@ -14,7 +14,6 @@ use multi_tables::scans::Held;
 use multi_tables::seen::SidedPort;
 use multi_tables::wire_tables::WireTables;
 use port_tables::index::{PORT_SLOTS, PortIndex};
-use port_tables::numbers::wide;
 use port_tables::sides::{ports_from, ports_to};
 
 // The subport of a port at an offset, if it has one.
@@ -25,20 +24,18 @@ fn subport_from(tables: WireTables<'_>, port: u32, offset: usize) -> Option<Subp
 {
     let (_, direction) = tables.block_port(PortIndex(port)).ok()?;
     let sided = SidedPort {
-        port: port,
+        port,
         side: direction,
     };
     if tables.span_count(sided) <= offset {
         return None;
     }
-    Some(SubportIndex {
-        port: PortIndex(port),
-        subport_offset: offset as u16,
-    })
+    Some(SubportIndex::new_multi(PortIndex(port), offset as u16))
 }
 
 // The first subport of the ports below `end`, from one port and offset on. Stays beside next_link of multi_tables: one search for both would take a closure
 // for what a port gives, and its contract would speak of that closure in place of subports; no plainer.
+// Stays a loop, as `scan_port`.
 #[tactic(auto, using(crate::specs::SubportSteps::subports_turn, crate::specs::SubportSteps::subports_found, crate::specs::SubportSteps::subports_done))]
 fn next_subport(
     tables: WireTables<'_>,
@@ -62,7 +59,8 @@ fn next_subport(
 }
 
 // The first subport of the ports from `from` on and below `end` that lies beyond what a cursor holds.
-#[tactic(auto, unfolding(crate::specs::WalkScans::subports_beyond))]
+// Stays beside `next_beyond` of multi_tables, for the same.
+#[tactic(auto, using(crate::specs::SubportSteps::beyond_start))]
 fn subport_beyond(
     tables: WireTables<'_>,
     from: usize,
@@ -72,18 +70,15 @@ fn subport_beyond(
     ensures { (result ≡ first_subport (subports_beyond tables.entry.marks.now tables.entry.links.now tables.entry.owners.now tables.entry.flags.now from end held.port held.offset))
         × (subport_port 0 result < port_slots) }
 {
-    let place = wide(held.port);
-    if place <= from {
-        return next_subport(tables, from, 0, end);
-    }
-    next_subport(tables, place - 1, usize::from(held.offset) + 1, end)
+    let (port, offset) = held.start(from);
+    next_subport(tables, port, offset, end)
 }
 
 impl NodeSubports {
     #[tactic(auto, using(crate::specs::WalkSteps::both_refused, crate::specs::WalkSteps::both_found, crate::specs::SubportSteps::subports_gone, crate::specs::SubportSteps::subports_none))]
-    pub fn step(self, graph: MultiPortGraph) -> Option<(SubportIndex, NodeSubports)>
-        requires { MultiWf graph }
-        ensures { (result ≡ step_subports graph self) × (node_subports_values result ≡ node_subports_values (step_subports graph self)) }
+    pub fn step(self, graph: &MultiPortGraph) -> Option<(SubportIndex, NodeSubports)>
+        requires { MultiWf graph.now }
+        ensures { (result ≡ step_subports graph.now self) × (node_subports_values result ≡ node_subports_values (step_subports graph.now self)) }
     {
         let sides = self.sides;
         let held = self.held;

@@ -12,14 +12,16 @@ ghost use Rattle.multiportgraph.specs.WellFormed.{MultiWf};
 ghost use Rattle.multiportgraph.specs.Presumed.{OnBlock, SplitPort, LeftPort};
 
 use crate::multiportgraph::{MultiPortGraph, PortTidied};
-use crate::prepare::{hidden_counts, linked, resized};
-use multi_tables::marks::flagged;
+use crate::prepare::hidden_counts;
+use multi_tables::answers::Refusal;
+use multi_tables::marks::put_marks;
 use multi_tables::seen::SidedPort;
-use port_tables::index::{PORT_SLOTS, PortIndex};
+use port_tables::index::{NodeIndex, PORT_SLOTS, PortIndex};
 use port_tables::numbers::wide;
-use port_tables::tables::at;
+use port_tables::tables::{at, far_in, owner_in};
 
-// How many of `count` ports from `first` on are left without the unlinked ones above the highest linked one.
+// How many of `count` ports from `first` on are left without the unlinked ones above the highest linked one. Goes over numbers, not over the slice: the laws of a
+// search of a range from the back stand already, for the walks; `rposition` would need its own, and is no plainer.
 pub(crate) fn linked_from(links: &[u32; PORT_SLOTS], first: usize, count: usize) -> usize
     requires { first + count ≤ port_slots }
     ensures { result ≡ linked_from links.now first count }
@@ -32,84 +34,88 @@ pub(crate) fn linked_from(links: &[u32; PORT_SLOTS], first: usize, count: usize)
 
 impl MultiPortGraph {
     // A split port's hidden node is left with some of its subports. The copy port's mark moves with it.
-    fn drop_subports(self, port: SidedPort, count: usize, left: usize) -> MultiPortGraph
-        requires { LeftPort self port.port port.side count left }
-        ensures { result ≡ drop_subports self (copy_node self port.port) port.side left }
+    fn drop_subports(&mut self, port: SidedPort, count: usize, left: usize)
+        requires { LeftPort self.old port.port port.side count left }
+        ensures { self.new ≡ drop_subports self.old (copy_node self.old port.port) port.side left }
     {
-        let hidden = self.hidden_copy(port);
+        let copy = far_in(self.graph.link_table(), wide(port.port));
+        let node = owner_in(self.graph.owner_table(), copy);
         let (incoming, outgoing) = hidden_counts(port.side, left);
-        let sized = resized(self.graph, hidden.node, incoming, outgoing);
-        let subports = self
+        // Fewer ports have room in their block.
+        let _ = self
+            .graph
+            .set_num_ports_quiet_lent(NodeIndex(node), incoming, outgoing);
+        let moved = far_in(self.graph.link_table(), wide(port.port));
+        put_marks(&mut self.multiport, copy, false, moved, true);
+        self.subport_count = self
             .subport_count
             .saturating_sub(count.saturating_sub(left));
-        self.copy_moved(sized.graph, port.port, hidden.copy, subports)
     }
 
     // The hidden node of a split port goes, and what its first subport was linked with is linked to the port.
-    fn link_directly(self, port: SidedPort) -> MultiPortGraph
-        requires { SplitPort self port.port port.side }
-        ensures { result ≡ link_directly self port.port port.side }
+    fn link_directly(&mut self, port: SidedPort)
+        requires { SplitPort self.old port.port port.side }
+        ensures { self.new ≡ link_directly self.old port.port port.side }
     {
         // as the table holds it: one higher than the port, 0 for nothing
-        let held = at(&self.graph.port_link, self.wire_tables().first_in(port));
-        let mut bare = self.drop_copy(port);
-        let Some(far) = held.checked_sub(1) else {
-            return bare;
-        };
-        bare.graph = linked(bare.graph, port.port, far);
-        bare
+        let held = at(self.graph.link_table(), self.wire_tables().first_in(port));
+        self.unsplit(port.port);
+        if let Some(far) = held.checked_sub(1) {
+            // Neither end is linked any more.
+            let _ = self
+                .graph
+                .link_ports_lent(PortIndex(port.port), PortIndex(far));
+        }
     }
 
     // Tidies a port: empty subports above the highest wired one go. Where only offset 0 is then wired, or none is, the hidden node
     // goes, and the wire, if there is one, is linked to the port directly.
-    #[tactic(auto, unfolding(crate::specs::Calls::tidy_port, crate::specs::Lookups::direction_of))]
-    pub fn tidy(self, port: PortIndex) -> PortTidied
+    pub fn tidy(mut self, port: PortIndex) -> PortTidied
         requires { MultiWf self }
         ensures { (result ≡ tidy_port self port.0) × (tidy_numbers result.answer ≡ tidy_numbers (tidy_port self port.0).answer) }
     {
-        match self.port_direction(port) {
-            Ok(side) => PortTidied {
-                graph: self.tidied(SidedPort {
-                    port: port.0,
-                    side: side,
-                }),
-                answer: Ok(()),
-            },
-            Err(refusal) => PortTidied {
-                graph: self,
-                answer: Err(refusal),
-            },
+        let answer = self.tidy_lent(port);
+        PortTidied {
+            graph: self,
+            answer,
         }
     }
 
-    // The graph with a port of a block tidied.
+    #[tactic(auto, unfolding(crate::specs::Calls::tidy_port, crate::specs::Lookups::direction_of))]
+    fn tidy_lent(&mut self, port: PortIndex) -> Result<(), Refusal>
+        requires { MultiWf self.old }
+        ensures { (self.new ≡ (tidy_port self.old port.0).graph) × (result ≡ (tidy_port self.old port.0).answer) }
+    {
+        let side = self.port_direction(port)?;
+        self.tidied(SidedPort { port: port.0, side });
+        Ok(())
+    }
+
+    // A port of a block is tidied.
     #[tactic(auto, using(crate::specs::CodeFormSteps::split_told, crate::specs::TidySteps::left_read, crate::specs::TidySteps::many_read))]
-    fn tidied(self, port: SidedPort) -> MultiPortGraph
-        requires { OnBlock self port.port port.side }
-        ensures { result ≡ cond (is_split self port.port) (tidied self port.port port.side) self }
+    fn tidied(&mut self, port: SidedPort)
+        requires { OnBlock self.old port.port port.side }
+        ensures { self.new ≡ cond (is_split self.old port.port) (tidied self.old port.port port.side) self.old }
     {
         if self.is_split(port.port) {
             let tables = self.wire_tables();
             let count = tables.subports_in(port);
             let first = tables.first_in(port);
-            let left = linked_from(&self.graph.port_link, first, count);
-            return self.with_left(port, count, left);
+            let left = linked_from(self.graph.link_table(), first, count);
+            self.leave(port, count, left);
         }
-        self
     }
 
-    // The graph with so many of the subports of a split port left.
+    // So many of the subports of a split port are left.
     #[tactic(auto, unfolding(crate::specs::Tidy::tidied), using(crate::specs::TidySteps::left_all))]
-    fn with_left(self, port: SidedPort, count: usize, left: usize) -> MultiPortGraph
-        requires { SplitPort self port.port port.side × (count ≡ subports self port.port port.side) × (left ≡ subports_left self port.port port.side) }
-        ensures { result ≡ tidied self port.port port.side }
+    fn leave(&mut self, port: SidedPort, count: usize, left: usize)
+        requires { SplitPort self.old port.port port.side × (count ≡ subports self.old port.port port.side) × (left ≡ subports_left self.old port.port port.side) }
+        ensures { self.new ≡ tidied self.old port.port port.side }
     {
         if left < 2 {
-            return self.link_directly(port);
+            self.link_directly(port);
+        } else if left < count {
+            self.drop_subports(port, count, left);
         }
-        if left < count {
-            return self.drop_subports(port, count, left);
-        }
-        self
     }
 }

@@ -21,13 +21,12 @@ use port_tables::sides::{ports_from, ports_to};
 pub(crate) fn end_before(back: u32, count: usize) -> usize
     ensures { (result ≡ end_before back count) × (result ≤ count) }
 {
-    if back == 0 {
-        return count;
-    }
-    count.min(wide(back) - 1)
+    back.checked_sub(1)
+        .map_or(count, |last| count.min(wide(last)))
 }
 
 // Whether a node slot holds a block.
+// The flag stays beside the slot, as in `block_links` of multi_tables.
 fn is_block(slot: NodeSlot, hidden: bool) -> bool
     ensures { result ≡ block_slot slot.entry hidden }
 {
@@ -37,10 +36,11 @@ fn is_block(slot: NodeSlot, hidden: bool) -> bool
 impl MultiPortGraph {
     // Whether the block that a cursor holds is still there. Stays beside the other graph's: each asks its own graph what it contains.
     #[tactic(auto, unfolding(crate::specs::Walks::node_held))]
-    fn node_held(self, held: u32) -> bool
-        ensures { result ≡ node_held self held }
+    fn node_held(&self, held: u32) -> bool
+        ensures { result ≡ node_held self.now held }
     {
-        held == 0 || self.contains_node(NodeIndex(held - 1))
+        held.checked_sub(1)
+            .is_none_or(|node| self.contains_node(NodeIndex(node)))
     }
 
     // Whether a port is a block's.
@@ -51,14 +51,16 @@ impl MultiPortGraph {
     }
 
     // Whether the port that a cursor holds is still there.
+    // Stays beside the other graph's, as `node_held`.
     #[tactic(auto, unfolding(crate::specs::WalkScans::held_in))]
     pub(crate) fn held_seen(&self, held: u32) -> bool
         ensures { result ≡ held_in self.now.graph.port_meta self.now.copy_node held }
     {
-        held == 0 || self.port_seen(held - 1)
+        held.checked_sub(1).is_none_or(|port| self.port_seen(port))
     }
 
     // The first port of a block from one slot on and below another.
+    // Stays beside `last_port`: a range and its reverse are two types.
     fn first_port(&self, from: usize, end: usize) -> Option<usize>
         requires { end ≤ port_slots }
         ensures { (result ≡ on_first None Some (ports_in self.now.graph.port_meta self.now.copy_node from end)) × MatchOption result (Unit {0}) (λ p. p < end) }
@@ -75,19 +77,19 @@ impl MultiPortGraph {
     }
 }
 
-// Two methods, as next and next_back of the library's iterators.
+// Two methods, as next and next_back of the library's iterators. Both ask for what is held by themselves: a range that is left, as an Option, would be taken apart
+// in both; no plainer.
 impl Nodes {
     #[tactic(auto, using(crate::specs::WalkSteps::nodes_front_gone, crate::specs::WalkSteps::nodes_back_gone))]
-    pub fn step(self, graph: MultiPortGraph) -> Option<(NodeIndex, Nodes)>
-        ensures { (result ≡ step_nodes graph self) × (nodes_values result ≡ nodes_values (step_nodes graph self)) }
+    pub fn step(self, graph: &MultiPortGraph) -> Option<(NodeIndex, Nodes)>
+        ensures { (result ≡ step_nodes graph.now self) × (nodes_values result ≡ nodes_values (step_nodes graph.now self)) }
     {
         let front = self.front;
         let back = self.back;
         if !graph.node_held(front) || !graph.node_held(back) {
             return None;
         }
-        let lower = graph.graph;
-        let slots = lower.node_slots();
+        let slots = graph.graph.node_table();
         let end = end_before(back, NODE_SLOTS);
         let n = (wide(front)..end).find(|n| is_block(slots[*n], flagged(&graph.copy_node, *n)))?;
         Some((
@@ -100,16 +102,15 @@ impl Nodes {
     }
 
     #[tactic(auto, using(crate::specs::WalkSteps::back_front_gone, crate::specs::WalkSteps::back_back_gone))]
-    pub fn step_back(self, graph: MultiPortGraph) -> Option<(NodeIndex, Nodes)>
-        ensures { (result ≡ step_nodes_back graph self) × (nodes_values result ≡ nodes_values (step_nodes_back graph self)) }
+    pub fn step_back(self, graph: &MultiPortGraph) -> Option<(NodeIndex, Nodes)>
+        ensures { (result ≡ step_nodes_back graph.now self) × (nodes_values result ≡ nodes_values (step_nodes_back graph.now self)) }
     {
         let front = self.front;
         let back = self.back;
         if !graph.node_held(front) || !graph.node_held(back) {
             return None;
         }
-        let lower = graph.graph;
-        let slots = lower.node_slots();
+        let slots = graph.graph.node_table();
         let end = end_before(back, NODE_SLOTS);
         let n = (wide(front)..end)
             .rev()
@@ -127,9 +128,9 @@ impl Nodes {
 // Two methods, as next and next_back of the library's iterators.
 impl Ports {
     #[tactic(auto, using(crate::specs::WalkSteps::ports_front_gone, crate::specs::WalkSteps::ports_back_gone, crate::specs::WalkSteps::ports_item_lem, crate::specs::WalkSteps::ports_none))]
-    pub fn step(self, graph: MultiPortGraph) -> Option<(PortIndex, Ports)>
-        requires { MultiWf graph }
-        ensures { (result ≡ step_all_ports graph self) × (ports_values result ≡ ports_values (step_all_ports graph self)) }
+    pub fn step(self, graph: &MultiPortGraph) -> Option<(PortIndex, Ports)>
+        requires { MultiWf graph.now }
+        ensures { (result ≡ step_all_ports graph.now self) × (ports_values result ≡ ports_values (step_all_ports graph.now self)) }
     {
         let front = self.front;
         let back = self.back;
@@ -148,9 +149,9 @@ impl Ports {
     }
 
     #[tactic(auto, using(crate::specs::WalkSteps::ports_back_front_gone, crate::specs::WalkSteps::ports_back_back_gone, crate::specs::WalkSteps::ports_back_item, crate::specs::WalkSteps::ports_back_none))]
-    pub fn step_back(self, graph: MultiPortGraph) -> Option<(PortIndex, Ports)>
-        requires { MultiWf graph }
-        ensures { (result ≡ step_all_ports_back graph self) × (ports_values result ≡ ports_values (step_all_ports_back graph self)) }
+    pub fn step_back(self, graph: &MultiPortGraph) -> Option<(PortIndex, Ports)>
+        requires { MultiWf graph.now }
+        ensures { (result ≡ step_all_ports_back graph.now self) × (ports_values result ≡ ports_values (step_all_ports_back graph.now self)) }
     {
         let front = self.front;
         let back = self.back;
@@ -171,9 +172,9 @@ impl Ports {
 
 impl NodePorts {
     #[tactic(auto, using(crate::specs::WalkSteps::both_refused, crate::specs::WalkSteps::both_found, crate::specs::WalkSteps::node_ports_gone, crate::specs::WalkSteps::node_ports_item, crate::specs::WalkSteps::node_ports_none))]
-    pub fn step(self, graph: MultiPortGraph) -> Option<(PortIndex, NodePorts)>
-        requires { MultiWf graph }
-        ensures { (result ≡ step_node_ports graph self) × (node_ports_values result ≡ node_ports_values (step_node_ports graph self)) }
+    pub fn step(self, graph: &MultiPortGraph) -> Option<(PortIndex, NodePorts)>
+        requires { MultiWf graph.now }
+        ensures { (result ≡ step_node_ports graph.now self) × (node_ports_values result ≡ node_ports_values (step_node_ports graph.now self)) }
     {
         let sides = self.sides;
         let held = self.held;

@@ -17,14 +17,13 @@ use port_tables::index::{NODE_SLOTS, PortIndex};
 use port_tables::numbers::wide;
 
 impl MultiPortGraph {
-    // The first wire of the node slots from `node` on; of that one beyond what a cursor holds.
+    // The first wire of the node slots from `node` on; of that one beyond what a cursor holds. Stays a loop, as `scan_port`.
     #[tactic(auto, unfolding(multi_tables::specs::Scans::first_found, multi_tables::specs::Scans::wires_in), using(multi_tables::specs::ScanSteps::nodes_turn))]
-    fn next_wire(self, node: usize, held: Held) -> Option<SubportLink>
-        ensures { (result ≡ first_found (wires_in self.multiport self.graph.port_link self.graph.port_meta self.copy_node self.graph.node_meta node held.port held.offset (node_slots - node)))
+    fn next_wire(&self, node: usize, held: Held) -> Option<SubportLink>
+        ensures { (result ≡ first_found (wires_in self.now.multiport self.now.graph.port_link self.now.graph.port_meta self.now.copy_node self.now.graph.node_meta node held.port held.offset (node_slots - node)))
             × (link_port 0 result < port_slots) }
     {
-        let lower = self.graph;
-        let slots = lower.node_slots();
+        let slots = self.graph.node_table();
         let tables = self.wire_tables();
         let mut left = held;
         for n in node..NODE_SLOTS {
@@ -40,21 +39,21 @@ impl MultiPortGraph {
 
 impl Wires {
     // The wire that comes next: none where the port held is gone or hidden; else the walk goes on from that port's present block.
-    fn next_link(self, graph: MultiPortGraph) -> Option<SubportLink>
-        requires { MultiWf graph }
-        ensures { (wires_found result ≡ step_wires graph self) × (link_port 0 result < port_slots) }
+    fn next_link(self, graph: &MultiPortGraph) -> Option<SubportLink>
+        requires { MultiWf graph.now }
+        ensures { (wires_found result ≡ step_wires graph.now self) × (link_port 0 result < port_slots) }
     {
         let held = self.held;
-        if held.port == 0 {
+        let Some(port) = held.port.checked_sub(1) else {
             return graph.next_wire(0, Held::default());
-        }
-        let (node, _) = graph.block_port(PortIndex(held.port - 1)).ok()?;
+        };
+        let (node, _) = graph.block_port(PortIndex(port)).ok()?;
         graph.next_wire(wide(node.0), held)
     }
 
-    pub fn step(self, graph: MultiPortGraph) -> Option<(SubportLink, Wires)>
-        requires { MultiWf graph }
-        ensures { (result ≡ step_wires graph self) × (wires_values result ≡ wires_values (step_wires graph self)) }
+    pub fn step(self, graph: &MultiPortGraph) -> Option<(SubportLink, Wires)>
+        requires { MultiWf graph.now }
+        ensures { (result ≡ step_wires graph.now self) × (wires_values result ≡ wires_values (step_wires graph.now self)) }
     {
         let link = self.next_link(graph)?;
         Some((

@@ -4,7 +4,7 @@
 --   Limits, Lists     the limits of the kit; words about lists
 --   Entries, Tables   the numbers in the tables, and single steps on them
 --   ResizeLinks       what a resize does to the link table
---   NodeWords         the node table as numbers
+--   NodeTable         what is read of the node table, and one slot stored
 --   Places            places and the wires between them, which the crates above speak of
 -- What is proved, and need not be believed: Listing, laws of lists, and steps that the functions' proofs cite.
 pub mod Limits
@@ -12,7 +12,7 @@ pub mod Lists
 pub mod Entries
 pub mod Tables
 pub mod ResizeLinks
-pub mod NodeWords
+pub mod NodeTable
 pub mod Places
 -- laws of lists
 pub mod Listing
@@ -20,4 +20,4 @@ pub mod Listing
 pub mod SameSides
 pub mod TableSteps
 pub mod ResizeLinkSteps
-pub mod NodeWordSteps
+pub mod NodeTableSteps

@@ -245,10 +245,6 @@ pub or_told : {A E : Type 0} (o : Option A) (z : E) (x : A) {r : Result A E} →
 or_told (Some y) z x e f = let g : y ≡ x = cc in ap Some g
 or_told None z x e f = cc
 
-pub or_lacking : {A E : Type 0} (o : Option A) (z w : E) {r : Result A E} → r ≡ ok_or o z → r ≡ Err w → (o ≡ None) × (w ≡ z)
-or_lacking (Some y) z w e f = cc
-or_lacking None z w e f = (refl, cc)
-
 -- what `?` passes on
 pub passed_on : {A E : Type 0} {r : Result A E} {e : E} → IsErrAnd r (λ y. y ≡ e) → r ≡ Err e
 passed_on {r} h = let p = err_from_is_err_and r h in p.1 ∙ ap Err p.2

@@ -43,40 +43,29 @@ impl PortOffset {
     pub fn new(direction: Direction, index: u16) -> Self
         ensures { (result.direction ≡ direction) × (result.index ≡ index) }
     {
-        PortOffset {
-            direction: direction,
-            index: index,
-        }
+        PortOffset { direction, index }
     }
 
     // Stays beside new_outgoing: portgraph has both names.
     pub fn new_incoming(index: u16) -> Self
         ensures { (result.direction ≡ Direction.Incoming) × (result.index ≡ index) }
     {
-        PortOffset {
-            direction: Direction::Incoming,
-            index: index,
-        }
+        Self::new(Direction::Incoming, index)
     }
 
     pub fn new_outgoing(index: u16) -> Self
         ensures { (result.direction ≡ Direction.Outgoing) × (result.index ≡ index) }
     {
-        PortOffset {
-            direction: Direction::Outgoing,
-            index: index,
-        }
+        Self::new(Direction::Outgoing, index)
     }
 
     // The same position on the other side.
     pub fn opposite(self) -> Self
         ensures { (result.direction ≡ reversed self.direction) × (result.index ≡ self.index) }
     {
-        let direction = self.direction;
-        let other = direction.reverse();
         PortOffset {
-            direction: other,
-            index: self.index,
+            direction: self.direction.reverse(),
+            ..self
         }
     }
 }

@@ -4,8 +4,8 @@
 
 pub mod direction;
 pub mod index;
-pub mod lent;
 pub mod node_entry;
+pub mod node_table;
 pub mod numbers;
 pub mod port_entry;
 pub mod release;

@@ -1,9 +1,11 @@
 // What the node table holds: a node with its block of slots, or a free entry with its two neighbours in the list of free entries.
-ghost use Rattle.std.specs.Prelude.{◌≡◌, ◌+◌};
-ghost use Rattle.port_tables.specs.Entries.{is_node, next_of, with_prev, free_slot_of, node_slot_of, meta_of_entry, ports_on};
+ghost use Rattle.std.specs.Prelude.{◌≡◌, ◌+◌, ◌*◌, ◌≤◌};
+ghost use Rattle.port_tables.specs.Limits.{port_slots, node_ports};
+ghost use Rattle.port_tables.specs.Entries.{is_node, next_of, with_prev, free_slot_of, node_slot_of, meta_of, meta_of_entry, ports_on};
 
 use crate::direction::Direction;
 use crate::index::PortIndex;
+use crate::numbers::wide;
 
 // Meta data of a valid node. BlockFits stays a clause: a slot may hold any numbers, and lookups read them all.
 #[derive(Clone, Copy)]
@@ -25,6 +27,7 @@ pub struct FreeNodeEntry {
     pub next: u16,
 }
 
+// What a slot holds. Stays an enum of its own, and no Result: portgraph has it under these names.
 #[derive(Clone, Copy)]
 pub enum NodeEntry {
     // No node is stored here.
@@ -33,13 +36,34 @@ pub enum NodeEntry {
     Node(NodeMeta),
 }
 
-// An element of the node table.
+// An element of the node table. Stays a struct around the entry: the definitions and theorems speak of tables of slots, and would say the same of entries;
+// no plainer.
 #[derive(Clone, Copy)]
 pub struct NodeSlot {
     pub entry: NodeEntry,
 }
 
 impl NodeMeta {
+    // Those of a node with these counts, whose block starts at `first` and has so many slots.
+    pub fn new(first: usize, incoming: usize, outgoing: usize, capacity: usize) -> Self
+        requires { (incoming + outgoing ≤ node_ports) × (first ≤ port_slots) × (capacity ≤ node_ports) }
+        ensures { result ≡ meta_of first incoming outgoing capacity }
+    {
+        NodeMeta {
+            first_port: PortIndex(first as u32),
+            incoming: incoming as u16,
+            outgoing: outgoing as u16,
+            capacity: capacity as u16,
+        }
+    }
+
+    // The first slot of the block, as an index.
+    pub fn first(self) -> usize
+        ensures { result ≡ self.first_port.0 }
+    {
+        wide(self.first_port.0)
+    }
+
     pub fn incoming(self) -> usize
         ensures { result ≡ self.incoming }
     {
@@ -62,7 +86,7 @@ impl NodeMeta {
     pub fn port_count(self) -> usize
         ensures { result ≡ self.incoming + self.outgoing }
     {
-        usize::from(self.incoming) + usize::from(self.outgoing)
+        self.incoming() + self.outgoing()
     }
 
     // The number of ports on one side.
@@ -70,8 +94,8 @@ impl NodeMeta {
         ensures { result ≡ ports_on self direction }
     {
         match direction {
-            Direction::Incoming => usize::from(self.incoming),
-            Direction::Outgoing => usize::from(self.outgoing),
+            Direction::Incoming => self.incoming(),
+            Direction::Outgoing => self.outgoing(),
         }
     }
 }
@@ -81,13 +105,11 @@ impl NodeSlot {
         ensures { result ≡ free_slot_of prev next }
     {
         NodeSlot {
-            entry: NodeEntry::Free(FreeNodeEntry {
-                prev: prev,
-                next: next,
-            }),
+            entry: NodeEntry::Free(FreeNodeEntry { prev, next }),
         }
     }
 
+    // Stays a method, beside `new_free`: `from` would not say at its callers what is made; no plainer.
     pub fn new_node(meta: NodeMeta) -> Self
         ensures { result ≡ node_slot_of meta }
     {
@@ -107,20 +129,19 @@ impl NodeSlot {
     pub fn meta(self) -> Option<NodeMeta>
         ensures { result ≡ meta_of_entry self.entry }
     {
-        let entry = self.entry;
-        match entry {
+        match self.entry {
             NodeEntry::Free(_) => None,
             NodeEntry::Node(meta) => Some(meta),
         }
     }
 
     // The next free entry after this one; 0 for none, and for a node.
+    // Stays a number, as the neighbours of an entry.
     pub fn next_free(self) -> u32
         ensures { result ≡ next_of self.entry }
     {
-        let entry = self.entry;
-        match entry {
-            NodeEntry::Free(free) => free.next as u32,
+        match self.entry {
+            NodeEntry::Free(free) => u32::from(free.next),
             NodeEntry::Node(_) => 0,
         }
     }
@@ -129,8 +150,7 @@ impl NodeSlot {
     pub fn with_prev(self, prev: u16) -> Self
         ensures { result ≡ with_prev self prev }
     {
-        let entry = self.entry;
-        match entry {
+        match self.entry {
             NodeEntry::Free(free) => NodeSlot {
                 entry: NodeEntry::Free(FreeNodeEntry { prev, ..free }),
             },

@@ -1,5 +1,5 @@
-// What the table of port owners holds. An entry is a number, so that the table can be lent:
-// 0 for a free slot, else the node's number doubled, and 1 more for an incoming port, 2 for an outgoing one.
+// What the table of port owners holds. An entry stays a number: owners and links are tables of one type, read and filled by the same functions.
+// It is 0 for a free slot, else the node's number doubled, and 1 more for an incoming port, 2 for an outgoing one.
 ghost use Rattle.std.specs.Prelude.{◌≡◌};
 ghost use Rattle.port_tables.specs.Entries.{port_entry, port_entry_numbers, port_of_entry};
 
@@ -25,15 +25,16 @@ pub enum PortEntry {
 }
 
 impl PortEntry {
+    // What an entry says. Stays a method: `PortEntry::read` says at its callers what is read, where `from` would not; no plainer.
     #[tactic(auto, unfolding(crate::specs::Entries::port_entry))]
     pub fn read(entry: u32) -> Self
         ensures { (result ≡ port_entry entry) × (port_entry_numbers result ≡ port_entry_numbers (port_entry entry)) }
     {
-        if entry == 0 {
+        let Some(code) = entry.checked_sub(1) else {
             return PortEntry::Free;
-        }
-        let node = NodeIndex((entry - 1) / 2);
-        let direction = if (entry - 1) % 2 == 0 {
+        };
+        let node = NodeIndex(code / 2);
+        let direction = if code % 2 == 0 {
             Direction::Incoming
         } else {
             Direction::Outgoing

@@ -6,16 +6,18 @@ ghost use Rattle.port_tables.specs.Entries.{meta_of};
 ghost use Rattle.port_tables.specs.Tables.{BlockWithin};
 ghost use Rattle.port_tables.specs.ResizeLinks.{round_up, same_counts, fits_inside, first_slot, kept_incoming, kept_outgoing, drop_links, drop_count, drop_told, inside_links, anew_links};
 
-use crate::index::{NODE_PORTS, PORT_SLOTS, PortIndex};
+use crate::direction::Direction;
+use crate::index::{NODE_PORTS, PORT_SLOTS};
 use crate::node_entry::NodeMeta;
-use crate::numbers::wide;
+use crate::sides::{Sides, ports_from};
 use crate::tables::{Shift, drop_ports, fill};
 
 // Whether a node can't have so many ports.
+// Incoming and outgoing stay two numbers, here and in the calls that name them: portgraph has them so.
 pub fn too_many_ports(incoming: usize, outgoing: usize) -> bool
     ensures { result ≡ ltb node_ports (incoming + outgoing) }
 {
-    NODE_PORTS < incoming || NODE_PORTS - incoming < outgoing
+    NODE_PORTS < incoming.saturating_add(outgoing)
 }
 
 // A total rounded up to a power of two; 1 for a total of 0.
@@ -28,7 +30,7 @@ pub fn round_up(total: usize) -> usize
 }
 
 // A node's meta data, and the counts that it is to have. The node stays beside: no method here reads it.
-// BlockWithin stays a clause, as what is said of NodeMeta: a slot may hold any numbers.
+// BlockWithin and the bound of the new counts stay clauses: `is_same` and `kept_incoming` take any, and a type that held them would ask them of these.
 #[derive(Clone, Copy)]
 pub struct Resize {
     pub meta: NodeMeta,
@@ -42,8 +44,7 @@ impl Resize {
     pub fn is_same(self) -> bool
         ensures { result ≡ same_counts self.meta self.incoming self.outgoing }
     {
-        self.incoming == usize::from(self.meta.incoming)
-            && self.outgoing == usize::from(self.meta.outgoing)
+        self.incoming == self.meta.incoming() && self.outgoing == self.meta.outgoing()
     }
 
     // Whether these counts are done within the node's block.
@@ -52,8 +53,16 @@ impl Resize {
         requires { self.incoming + self.outgoing ≤ node_ports }
         ensures { result ≡ fits_inside self.meta self.incoming self.outgoing }
     {
-        let total = self.incoming + self.outgoing;
-        0 < total && total < usize::from(self.meta.capacity)
+        let total = self.total();
+        0 < total && total < self.meta.capacity()
+    }
+
+    // How many ports the node is to have.
+    pub fn total(self) -> usize
+        requires { self.incoming + self.outgoing ≤ node_ports }
+        ensures { result ≡ self.incoming + self.outgoing }
+    {
+        self.incoming + self.outgoing
     }
 
     // The node's new meta data, with a block from `first` on.
@@ -61,26 +70,22 @@ impl Resize {
         requires { (self.incoming + self.outgoing ≤ node_ports) × (first ≤ port_slots) × (capacity ≤ node_ports) }
         ensures { result ≡ meta_of first self.incoming self.outgoing capacity }
     {
-        NodeMeta {
-            first_port: PortIndex(first as u32),
-            incoming: self.incoming as u16,
-            outgoing: self.outgoing as u16,
-            capacity: capacity as u16,
-        }
+        NodeMeta::new(first, self.incoming, self.outgoing, capacity)
     }
 
     // How many incoming ports stay.
+    // Stays beside `kept_outgoing`: each reads two fields of its own, and one over the side would match for both; no plainer.
     pub fn kept_incoming(self) -> usize
         ensures { result ≡ kept_incoming self.meta self.incoming }
     {
-        usize::from(self.meta.incoming).min(self.incoming)
+        self.meta.incoming().min(self.incoming)
     }
 
     // How many outgoing ports stay.
     pub fn kept_outgoing(self) -> usize
         ensures { result ≡ kept_outgoing self.meta self.outgoing }
     {
-        usize::from(self.meta.outgoing).min(self.outgoing)
+        self.meta.outgoing().min(self.outgoing)
     }
 
     // The incoming ports that stay, as they go to a block from `first` on.
@@ -88,7 +93,7 @@ impl Resize {
         ensures { (result.from ≡ first_slot self.meta) × (result.to ≡ first) × (result.count ≡ kept_incoming self.meta self.incoming) }
     {
         Shift {
-            from: wide(self.meta.first_port.0),
+            from: self.meta.first(),
             to: first,
             count: self.kept_incoming(),
         }
@@ -101,7 +106,7 @@ impl Resize {
             × (result.count ≡ kept_outgoing self.meta self.outgoing) }
     {
         Shift {
-            from: wide(self.meta.first_port.0) + usize::from(self.meta.incoming),
+            from: ports_from(self.meta, Sides::One(Direction::Outgoing)),
             to: first + self.incoming,
             count: self.kept_outgoing(),
         }
@@ -115,9 +120,9 @@ impl Resize {
             × (links.new ≡ drop_links links.old self.meta self.incoming self.outgoing)
             × (moves.new ≡ sets moves.old 0 (drop_told links.old self.meta self.incoming self.outgoing)) }
     {
-        let first = wide(self.meta.first_port.0);
-        let old_in = usize::from(self.meta.incoming);
-        let old_out = usize::from(self.meta.outgoing);
+        let first = self.meta.first();
+        let old_in = self.meta.incoming();
+        let old_out = self.meta.outgoing();
         let kept_in = self.kept_incoming();
         let kept_out = self.kept_outgoing();
         let a = drop_ports(links, moves, 0, first + kept_in, old_in - kept_in);
@@ -137,10 +142,10 @@ impl Resize {
         requires { BlockWithin self.meta × (self.incoming + self.outgoing ≤ self.meta.capacity) × (self.meta.capacity ≤ node_ports) }
         ensures { links.new ≡ inside_links links.old self.meta self.incoming self.outgoing }
     {
-        let first = wide(self.meta.first_port.0);
-        let old_in = usize::from(self.meta.incoming);
-        let old_out = usize::from(self.meta.outgoing);
-        let total = self.incoming + self.outgoing;
+        let first = self.meta.first();
+        let old_in = self.meta.incoming();
+        let old_out = self.meta.outgoing();
+        let total = self.total();
         let shift = self.outgoing_shift(first);
         shift.move_ports(links, self.incoming < old_in);
         fill(

@@ -4,9 +4,9 @@ ghost use Rattle.port_tables.specs.Entries.{ports_from, ports_to};
 
 use crate::direction::Direction;
 use crate::node_entry::NodeMeta;
-use crate::numbers::wide;
 
 // One side of a node, or both, incoming first.
+// No Option of a direction, in which none would stand for both; no plainer.
 #[derive(Clone, Copy)]
 pub enum Sides {
     One(Direction),
@@ -17,10 +17,9 @@ pub enum Sides {
 pub fn ports_from(meta: NodeMeta, sides: Sides) -> usize
     ensures { result ≡ ports_from meta sides }
 {
-    let first = wide(meta.first_port.0);
     match sides {
-        Sides::One(Direction::Outgoing) => first + usize::from(meta.incoming),
-        Sides::One(Direction::Incoming) | Sides::Both => first,
+        Sides::One(Direction::Outgoing) => meta.first() + meta.incoming(),
+        Sides::One(Direction::Incoming) | Sides::Both => meta.first(),
     }
 }
 
@@ -28,9 +27,9 @@ pub fn ports_from(meta: NodeMeta, sides: Sides) -> usize
 pub fn ports_to(meta: NodeMeta, sides: Sides) -> usize
     ensures { result ≡ ports_to meta sides }
 {
-    let end = wide(meta.first_port.0) + usize::from(meta.incoming);
+    let end = meta.first() + meta.incoming();
     match sides {
         Sides::One(Direction::Incoming) => end,
-        Sides::One(Direction::Outgoing) | Sides::Both => end + usize::from(meta.outgoing),
+        Sides::One(Direction::Outgoing) | Sides::Both => end + meta.outgoing(),
     }
 }

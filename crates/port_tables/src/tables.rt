@@ -1,4 +1,4 @@
-// The leaves: each works on one lent table, the move list beside it where events are told.
+// The leaves: each works on one table by reference, the move list beside it where events are told.
 // A leaf without a clause tests its numbers.
 ghost use Rattle.std.specs.Prelude.{◌≡◌, ◌+◌, ◌-◌, ◌*◌, ◌≤◌, ◌<◌, set, [], ◌∷◌};
 ghost use Rattle.std.proofs.lemmas.List.Edits.{sets};
@@ -10,6 +10,7 @@ use crate::node_entry::NodeMeta;
 use crate::numbers::wide;
 
 // What a table holds at a slot; 0 outside.
+// Stays a number: 0 is what a slot with nothing in it holds, and the definition reads one outside so.
 #[tactic(auto, unfolding(crate::specs::Tables::at))]
 pub fn at(table: &[u32; PORT_SLOTS], slot: usize) -> u32
     ensures { result ≡ at table.now slot }
@@ -34,6 +35,7 @@ pub fn owner_in(owners: &[u32; PORT_SLOTS], port: u32) -> u32
 }
 
 // Stores a number at a slot; outside nothing changes. Stays beside `store`: each says its own table's definition.
+// Tests and indexes, as the stores below do: the slot is read off the test, where what `get_mut` lends would be matched on; no plainer.
 #[tactic(auto, unfolding(crate::specs::Tables::put))]
 pub fn put(table: &mut [u32; PORT_SLOTS], slot: usize, value: u32)
     ensures { table.new ≡ put table.old slot value }
@@ -43,8 +45,7 @@ pub fn put(table: &mut [u32; PORT_SLOTS], slot: usize, value: u32)
     }
 }
 
-// The number of links after one is cut, by what the link table held; no link is one that was there. Each call counts so beside its cut: a cut that counts
-// would have to say of every other table that it stays.
+// The number of links after one is cut, by what the link table held; no link is one that was there.
 pub fn without_link(count: usize, far: u32) -> usize
     ensures { result ≡ count - link_count far }
 {
@@ -63,6 +64,7 @@ pub fn fill(table: &mut [u32; PORT_SLOTS], first: u32, count: u16, value: u32)
 }
 
 // The first free block of a size, one higher than its first slot; 0 for none.
+// A table's word stays as it is held, as in `cut`: a block that is freed stores it again.
 // Stays beside at: each says its own table's definition, so that one function over the size would stand below both as a third.
 #[tactic(auto, unfolding(crate::specs::Tables::head_at))]
 pub fn head_at(heads: &[u32; FREE_LISTS], size: usize) -> u32
@@ -72,6 +74,7 @@ pub fn head_at(heads: &[u32; FREE_LISTS], size: usize) -> u32
 }
 
 // Makes another block the first free one of its size.
+// Stays beside `put`, as `head_at` beside `at`.
 #[tactic(auto, unfolding(crate::specs::Tables::put_head))]
 pub fn put_head(heads: &mut [u32; FREE_LISTS], size: usize, value: u32)
     ensures { heads.new ≡ put_head heads.old size value }
@@ -93,8 +96,8 @@ pub fn own_block(owners: &mut [u32; PORT_SLOTS], node: u32, meta: NodeMeta)
     let capacity = meta.capacity;
     let count = incoming + outgoing;
     fill(owners, first, incoming, 2 * node + 1);
-    fill(owners, first + incoming as u32, outgoing, 2 * node + 2);
-    fill(owners, first + count as u32, capacity - count, 0);
+    fill(owners, first + u32::from(incoming), outgoing, 2 * node + 2);
+    fill(owners, first + u32::from(count), capacity - count, 0);
 }
 
 // Links two ports with one another.
@@ -115,9 +118,9 @@ pub fn cut(links: &mut [u32; PORT_SLOTS], port: usize) -> u32
     ensures { (result ≡ at links.old port) × (links.new ≡ cut links.old port) }
 {
     let far = at(links, port);
-    if far != 0 {
+    if let Some(other) = far.checked_sub(1) {
         put(links, port, 0);
-        put(links, wide(far - 1), 0);
+        put(links, wide(other), 0);
     }
     far
 }
@@ -131,14 +134,15 @@ pub fn link_count(far: u32) -> usize
 }
 
 // Cuts the links of `count` ports from `first` on, one after the other, and answers how many there were.
+// Counts from 0, as the loops below: the definitions go by the number of ports; no plainer.
+// That the ports lie within the table stays a clause: the definitions take any first port and number, and a type that held it would be none of theirs.
 pub fn cut_range(links: &mut [u32; PORT_SLOTS], first: usize, count: usize) -> usize
     requires { first + count ≤ port_slots }
     ensures { (result ≡ cut_count links.old first count) × (links.new ≡ cut_range links.old first count) }
 {
     let mut n: usize = 0;
     for k in 0..count {
-        let far = cut(links, first + k);
-        n += link_count(far);
+        n += link_count(cut(links, first + k));
     }
     n
 }
@@ -151,8 +155,8 @@ pub fn move_port(links: &mut [u32; PORT_SLOTS], old: usize, new: usize)
 {
     let far = at(links, old);
     put(links, new, far);
-    if far != 0 {
-        put(links, wide(far - 1), new as u32 + 1);
+    if let Some(other) = far.checked_sub(1) {
+        put(links, wide(other), new as u32 + 1);
     }
 }
 
@@ -188,6 +192,7 @@ fn put_event(moves: &mut [u32], event: u32, port: u32, kind: u32, number: u32)
 }
 
 // What an event tells of a link: the port, or 4294967295 for none.
+// Stays a number, as the rest of an event.
 #[tactic(auto, unfolding(crate::specs::Tables::told_link))]
 fn told_link(far: u32) -> u32
     ensures { result ≡ told_link far }

@@ -1,6 +1,6 @@
 -- A node gets other counts in a new block: the tables then stand for the model in which it has moved there.
 -- Ports that stay go over, incoming ones first; then no slot of the old block has a link, and the old block becomes free.
-use Rattle.std.specs.Prelude.{◌≡◌, refl, Bool, true, false, cond, List, [], ◌∷◌, ℕ, ◌+◌, ◌-◌, ◌≤◌, ◌<◌, eqb, ltb, length}
+use Rattle.std.specs.Prelude.{◌≡◌, refl, Bool, true, false, cond, List, ℕ, ◌+◌, ◌-◌, ◌≤◌, ◌<◌, eqb, ltb, length}
 use Rattle.std.proofs.Math.Path.{sym, ap}
 use Rattle.std.proofs.Common.{◌∙◌, subst, inr, ltb-true, ltb-false, eqb-true}
 use native.Mathlib.Omega.{arith}
@@ -18,7 +18,7 @@ use Rattle.portgraph.specs.Calls.{head_after}
 use Rattle.portgraph.specs.Resize.{resize_anew}
 use Rattle.port_tables.specs.ResizeLinks.{first_slot, kept_incoming, kept_outgoing, drop_links, drop_count, anew_links}
 use Rattle.portgraph.specs.LinkLaws.{Rep, Vacant, NoneOf, Moved, side_place, not_of_side, transfer_at, rep_fill_vacant, rep_extend, cut_range_none, dropped_holds_none, far_number_is_far_is}
-use Rattle.portgraph.specs.GoodSlots.{held_not_idle, block_of_one, free_block_apart, slot_in_range, slots_apart, hand_elim, handed_inside, give_elim}
+use Rattle.portgraph.specs.GoodSlots.{held_not_idle, block_of_one, free_block_apart, slot_in_range, slots_apart, hand_elim, handed_inside, give_elim, rest_in}
 use Rattle.portgraph.specs.GoodLaws.{good_move}
 use Rattle.portgraph.specs.Chains.{length_put_head}
 use Rattle.portgraph.specs.PlaceLaws.{idle_vacant, spare_vacant}
@@ -28,10 +28,6 @@ use Rattle.port_tables.specs.declared.direction.Direction.{Direction}
 use Rattle.port_tables.specs.declared.direction.Direction.TheVariants.{Incoming, Outgoing}
 use Rattle.port_tables.specs.declared.node_entry.NodeMeta.{NodeMeta}
 use Rattle.portgraph.specs.declared.portgraph.PortGraph.{PortGraph}
-
-rest_in : (l : List ℕ) (b : ℕ) → Member b (rest l) → Member b l
-rest_in [] b h = h
-rest_in (c ∷ l) b h = inr h
 
 module _ {g : PortGraph} {M : Model} (good : Good M) (holds : Holds g M) (n : ℕ) (m : NodeMeta) (here : M.node n ≡ live m) (incoming outgoing size : ℕ)
     (fit : incoming + outgoing ≤ size) (some : 0 < size) (small : size ≤ node_ports) (room : M.port_len + growth size (M.free_blocks size) ≤ port_slots) where

@@ -289,7 +289,7 @@ module _ {own own' : ℕ → ℕ → ℕ → Type 0} {blocks blocks' : ℕ → L
         unused_beyond = λ s h. handed_outside who first size (held n) s (λ w. let a = t.ends in omega arith) ∙ p.unused_beyond s (let a = t.grows in omega arith);
       }
 
-rest_in : (l : List ℕ) (b : ℕ) → Member b (rest l) → Member b l
+pub rest_in : (l : List ℕ) (b : ℕ) → Member b (rest l) → Member b l
 rest_in [] b h = h
 rest_in (c ∷ l) b h = inr h
 

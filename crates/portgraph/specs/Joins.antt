@@ -4,7 +4,7 @@ use Rattle.std.specs.Prelude.{◌≡◌, Bool, ◌⊎◌, ℕ, eqb}
 use Rattle.std.proofs.Math.Path.{refl, sym}
 use Rattle.std.proofs.Common.{◌∙◌, ap, true≢false, inl, inr, eqb-true, eq-eqb}
 use Rattle.std.proofs.Math.Bool.{true, false, cond}
-use Rattle.std.proofs.lemmas.Bool.{eqb-false}
+use Rattle.std.proofs.lemmas.Bool.{eqb-false, false_from_ne_true}
 use Rattle.portgraph.specs.Model.{Far, nowhere, to, InnerPlace}
 use Rattle.portgraph.specs.Meaning.{upd, same_place, keep_far, drop_join, link_join}
 use Rattle.port_tables.specs.Entries.{same_side}
@@ -30,10 +30,6 @@ upd_other f n v i h = upd_elim (λ a. a ≡ f i) f n v i (λ e. absurd (h e)) (�
 
 -- Sides and places: the tests say what they are named for.
 
-not_so : (b : Bool) → (b ≡ true → ⊥) → b ≡ false
-not_so true h = absurd (h refl)
-not_so false h = refl
-
 pub same_side_refl : (d : Direction) → same_side d d ≡ true
 same_side_refl Incoming = refl
 same_side_refl Outgoing = refl
@@ -48,7 +44,7 @@ pub same_side_false : (d e : Direction) → same_side d e ≡ false → d ≡ e 
 same_side_false d e t s = true≢false (sym (same_side_refl d) ∙ ap (same_side d) s ∙ t)
 
 pub same_side_distinct : (d e : Direction) → (d ≡ e → ⊥) → same_side d e ≡ false
-same_side_distinct d e other = not_so (same_side d e) (λ t. other (same_side_true d e t))
+same_side_distinct d e other = false_from_ne_true (same_side d e) (λ t. other (same_side_true d e t))
 
 pub place_by_parts : (x y : InnerPlace) → x.node ≡ y.node → x.side ≡ y.side → x.pos ≡ y.pos → x ≡ y
 place_by_parts x y p q r = λ i. record { node = p i; side = q i; pos = r i }
@@ -70,7 +66,7 @@ pub same_place_false : (x y : InnerPlace) → same_place x y ≡ false → x ≡
 same_place_false x y t s = true≢false (sym (same_place_refl x) ∙ ap (same_place x) s ∙ t)
 
 pub same_place_distinct : (x y : InnerPlace) → (x ≡ y → ⊥) → same_place x y ≡ false
-same_place_distinct x y other = not_so (same_place x y) (λ t. other (same_place_true x y t))
+same_place_distinct x y other = false_from_ne_true (same_place x y) (λ t. other (same_place_true x y t))
 
 -- two places are the same or not
 pub place_cases : (x y : InnerPlace) → (x ≡ y) ⊎ (x ≡ y → ⊥)
@@ -88,9 +84,9 @@ to_once p q = cc
 
 -- Links that go with the places of a test.
 
-either_way : (b : Bool) → cond b nowhere nowhere ≡ nowhere
-either_way true = refl
-either_way false = refl
+pub either_way {ℓ} : {A : Type ℓ} (b : Bool) (x : A) → cond b x x ≡ x
+either_way true x = refl
+either_way false x = refl
 
 module _ (f : InnerPlace → Bool) (join : InnerPlace → Far) (x : InnerPlace) where
   pub drop_here : f x ≡ true → drop_join f join x ≡ nowhere
@@ -99,11 +95,11 @@ module _ (f : InnerPlace → Bool) (join : InnerPlace → Far) (x : InnerPlace) 
 
   pub drop_there : (y : InnerPlace) → join x ≡ to y → f y ≡ true → drop_join f join x ≡ nowhere
   unfolding drop_join
-  drop_there y j t = rw (j, t) (either_way (f x))
+  drop_there y j t = rw (j, t) (either_way (f x) nowhere)
 
   pub drop_nowhere : join x ≡ nowhere → drop_join f join x ≡ nowhere
   unfolding drop_join
-  drop_nowhere j = rw j (either_way (f x))
+  drop_nowhere j = rw j (either_way (f x) nowhere)
 
   pub drop_kept : (y : InnerPlace) → join x ≡ to y → f x ≡ false → f y ≡ false → drop_join f join x ≡ to y
   unfolding drop_join

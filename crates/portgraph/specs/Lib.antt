@@ -4,7 +4,7 @@
 -- `port_tables` (limits, entries, tables, places) they stand in this order:
 --   Lookups, Calls, Resize      each call: answer, graph and move list as the contracts cite them
 --   Walks, LinkWalks            the steps of the cursors
---   Lent                        the same graph as tables apart, each lent to the calls: graph_in puts them together
+--   Parts                       a graph in parts: its tables, and the numbers beside them
 --
 -- What is proved, and need not be believed: everything else. A contract presumes of its graph only that it came from these calls
 -- (Wf), and what that says nobody has to believe: the empty graph has it, and every call keeps it.
@@ -18,7 +18,6 @@
 --   model that Meaning gives
 --   slot_found, block_found_lem (SlotHolds, BlockHolds): the slot or block freed last is taken first, else the end
 --   told_length, told_first, moves_kept, kept_link (ResizeLaws): the move list, and that a kept port keeps its link
---   words_fixed, zeros_canonical (LentWords): a lent node table that is canonical fixes each of its numbers
 --   walk_gives_all_nodes, walk_gives_all_ports, walk_gives_all_offsets (WalkLaws), walk_gives_all_links, walk_gives_all_neighbours,
 --   walk_gives_all_connections, walk_gives_all_live_ports (LinkWalkLaws)
 pub mod Lookups
@@ -26,7 +25,7 @@ pub mod Calls
 pub mod Resize
 pub mod Walks
 pub mod LinkWalks
-pub mod Lent
+pub mod Parts
 -- what is proved: what the tables stand for
 pub mod Model
 pub mod Meaning
@@ -53,9 +52,6 @@ pub mod LinkWalkLaws
 pub mod LookupSteps
 pub mod SlotSteps
 pub mod ResizeSteps
-pub mod LentResize
-pub mod LentSteps
-pub mod LentWords
-pub mod LentGraph
+pub mod Numbered
 pub mod WfFacts
 pub mod LinkWalkSteps

@@ -3,6 +3,7 @@
 use Rattle.std.specs.Prelude.{◌≡◌, refl, Bool, true, false, cond, List, ◌⊎◌, ℕ, zero, suc, ◌+◌, ◌-◌, ◌≤◌, ◌<◌, leb, ltb, length, get_or, replicate, Option, Some, None, Result, Ok, Err}
 use Rattle.std.proofs.Common.{sym, ◌∙◌, subst, inl, inr, arith, add-one, eq-eqb, ne_eqb}
 use Rattle.std.proofs.Math.Path.{ap}
+use Rattle.std.proofs.Math.Nat.{sub-zero}
 use Rattle.std.proofs.lemmas.List.{length-replicate}
 use Rattle.port_tables.specs.Limits.{node_slots, port_slots, node_ports, free_lists}
 use Rattle.port_tables.specs.Lists.{Member}
@@ -126,9 +127,6 @@ with_join M join =
       port_len = M.port_len;
       who = M.who;
     }
-
-none_less : (a : ℕ) → a - 0 ≡ a
-none_less a = omega arith
 
 module _ {g : PortGraph} {M : Model} (good : Good M) (holds : Holds g M) where
   links_hold : (t : List ℕ) (count : ℕ) (join : InnerPlace → Far) → Rep (Valid M.node) (slot_of M.node) join t →
@@ -394,7 +392,7 @@ module _ {g : PortGraph} {M : Model} (good : Good M) (holds : Holds g M) where
       let z : at g.port_link (slot_of M.node x) ≡ 0 = link_none good holds x v e in
       let t : cut g.port_link (slot_of M.node x) ≡ g.port_link = cut_none g.port_link (slot_of M.node x) z in
       let c : g.link_count - link_count (at g.port_link (slot_of M.node x)) ≡ g.link_count =
-      ap (λ (n : ℕ). g.link_count - n) (sym (link_count_none (at g.port_link (slot_of M.node x)) z)) ∙ none_less g.link_count in
+      ap (λ (n : ℕ). g.link_count - n) (sym (link_count_none (at g.port_link (slot_of M.node x)) z)) ∙ sub-zero g.link_count in
       (λ i. record { graph = unlink_entry g (slot_of M.node x) (port_of_place good holds x v i); answer = port_link_none good holds x v e i })
       ∙ (λ i. record { graph = with_links g (t i) (c i); answer = Ok None })
 

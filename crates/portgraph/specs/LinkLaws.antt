@@ -14,6 +14,7 @@ use Rattle.port_tables.specs.Tables.{at, put, fill_range, chain_block, shift, li
 use Rattle.portgraph.specs.TableLaws.{length_put, length_fill_range, length_chain_block, length_link_both, length_cut, length_move_port, at_put_same, at_put_other, at_fill_outside, at_chain_other}
 use Rattle.portgraph.specs.Model.{Far, nowhere, to, Slots, live, Valid, side_start, slot_of, far_number, is_linked, InnerPlace}
 use Rattle.portgraph.specs.Meaning.{same_place, drop_join, link_join}
+use Rattle.port_tables.specs.TableSteps.{linked_both}
 use Rattle.portgraph.specs.Joins.{same_place_refl, same_place_true, same_place_false, same_place_distinct, place_cases, to_is_not_nowhere, to_once, drop_here, drop_there, drop_joined, drop_leaves, drop_twice, drop_unlinked, drop_elsewhere, link_near, link_far, link_other, Joined, far_valid, joined_drop, joined_link}
 use Rattle.port_tables.specs.declared.direction.Direction.{Direction}
 use Rattle.port_tables.specs.declared.direction.Direction.TheVariants.{Incoming, Outgoing}
@@ -209,13 +210,9 @@ module _ {P : InnerPlace → Type 0} {ν : InnerPlace → ℕ} {J : InnerPlace �
 
 -- Two places are linked.
 
-link_both_inside : (t : List ℕ) (a b : ℕ) → a < port_slots → b < port_slots → link_both t a b ≡ put (put t a (b + 1)) b (a + 1)
-unfolding link_both
-link_both_inside t a b h k = rw (lt-ltb a port_slots h, lt-ltb b port_slots k)
-
 module _ {P : InnerPlace → Type 0} {ν : InnerPlace → ℕ} {J : InnerPlace → Far} {t : List ℕ} (R : Rep P ν J t) (x y : InnerPlace) (px : P x) (py : P y) where
   link_table : link_both t (ν x) (ν y) ≡ put (put t (ν x) (ν y + 1)) (ν y) (ν x + 1)
-  link_table = link_both_inside t (ν x) (ν y) (R.fits x px) (R.fits y py)
+  link_table = sym (linked_both t (ν x) (ν y) (R.fits x px) (R.fits y py))
 
   pub link_at : J x ≡ nowhere → J y ≡ nowhere → (x.side ≡ y.side → ⊥) → Rep P ν (link_join x y J) (link_both t (ν x) (ν y))
   link_at freeX free_y opposite =

@@ -1,6 +1,6 @@
 -- Laws of the walks over links and over all ports: from its start a walk gives the whole listing, in order, and comes to its end.
 -- Each item is a link of the model; a cursor whose node or port is gone ends the walk.
-use Rattle.port_tables.specs.Listing.{range_member}
+use Rattle.port_tables.specs.Listing.{range_member, filter_member, filter_none, member_filter}
 use Rattle.std.proofs.Math.Path.{◌≡◌, refl, sym, ap}
 use Rattle.std.proofs.Common.{◌∙◌, inl, inr}
 use Rattle.std.specs.Prelude.{Bool, ◌⊎◌, ℕ, zero, suc, ◌+◌, ◌-◌, ◌≤◌, ◌<◌, max, eqb, leb, Option, Some, None}
@@ -16,7 +16,7 @@ use Rattle.port_tables.specs.Tables.{at, far_in, owner_in}
 use Rattle.portgraph.specs.Model.{Model, Good, Holds, to, Slots, gone, live, Valid, slot_of, far_number, count_of, side_start, InnerPlace}
 use Rattle.portgraph.specs.Lookups.{meta_at, port_at, is_some, contains_node, is_port, contains_port}
 use Rattle.portgraph.specs.PlaceLaws.{meta_of_place, meta_of_node, port_of_place, slot_cases}
-use Rattle.portgraph.specs.WalkLaws.{Walked, whole, unfinished, more, ports_of_node, ports_alive, Ascending, ascending_once}
+use Rattle.portgraph.specs.WalkLaws.{ports_few, Walked, whole, unfinished, more, ports_of_node, ports_alive, Ascending, ascending_once}
 use Rattle.portgraph.specs.LinkWalks.{beyond, is_port_in, held_in, link_kept, is_node_of, is_of, link_to, ports_in, link_at, node_links, links_item, step_links, own_from, own_to, neighbour_at, neighbours, neighbours_item, step_neighbours, connections, connections_item, step_connections, all_ports, all_ports_item, step_all_ports}
 use Rattle.port_tables.specs.TableSteps.{at_outside}
 use Rattle.portgraph.specs.LinkWalkSteps.{filter_beyond, all_beyond, no_node_no_step}
@@ -94,11 +94,6 @@ nothing_beyond {ℓ} : {A : Type ℓ} (there : Bool) (held : ℕ) (end : A) (ite
 unfolding beyond on_first filter
 nothing_beyond true held end item = refl
 nothing_beyond false held end item = refl
-
-none_of : (f : ℕ → Bool) (l : List ℕ) → ((p : ℕ) → f p ≡ false) → filter f l ≡ []
-unfolding filter
-none_of f [] h = refl
-none_of f (x ∷ l) h = rw (h x) (none_of f l h)
 
 -- what follows a step is what follows its item, or its end
 step_then {ℓ κ} : {A : Type ℓ} {B : Type κ} (f : A → B) (there : Bool) (held : ℕ) (end : A) (item : ℕ → A) (l : List ℕ) → f (beyond there held end item l) ≡ beyond there held (f end) (λ p. f (item p)) l
@@ -271,11 +266,6 @@ within m (One Incoming) p a b = (omega arith, omega arith)
 within m (One Outgoing) p a b = (omega arith, omega arith)
 within m Both p a b = (omega arith, omega arith)
 
-few : (m : NodeMeta) (sides : Sides) → ports_to m sides - ports_from m sides ≤ m.incoming + m.outgoing
-few m (One Incoming) = omega arith
-few m (One Outgoing) = omega arith
-few m Both = omega arith
-
 module _ (g : PortGraph) (M : Model) (good : Good M) (holds : Holds g M) where
   module _ (n : ℕ) (m : NodeMeta) (node : M.node n ≡ live m) where
     meta : meta_at g n ≡ Some m
@@ -286,7 +276,7 @@ module _ (g : PortGraph) (M : Model) (good : Good M) (holds : Holds g M) where
 
     enough : (sides : Sides) → ports_to m sides - ports_from m sides < node_ports + 1
     enough sides =
-        let a = few m sides in
+        let a = ports_few m sides in
         let b = good.ports_in_block n m node in
         let c = good.block_small n m node in
         omega arith
@@ -391,7 +381,7 @@ module _ (g : PortGraph) (M : Model) (good : Good M) (holds : Holds g M) where
   -- no link leads to a node that is gone
   pub gone_target_ends_connections : (c : NodeConnections) → contains_node g c.target.0 ≡ false → step_connections g c ≡ None
   unfolding step_connections link_to
-  gone_target_ends_connections c h = ap (beyond (held_in g.port_meta c.held) c.held None (connections_item g c)) (none_of _ _ none) ∙ sym (nothing_beyond _ _ _ _)
+  gone_target_ends_connections c h = ap (beyond (held_in g.port_meta c.held) c.held None (connections_item g c)) (filter_none _ _ (λ p i. none p)) ∙ sym (nothing_beyond _ _ _ _)
     where
       none : (p : ℕ) → link_to g.port_link g.port_meta c.target.0 p ≡ false
       none p = go (eqb (at g.port_link p) 0) (is_of c.target.0 (at g.port_meta (far_in g.port_link p))) refl
@@ -437,30 +427,6 @@ module _ (g : PortGraph) where
 
 -- What the listings hold: exactly the slots for which the test holds, ascending, so that none comes twice.
 
-pub in_filter : (f : ℕ → Bool) (x : ℕ) (l : List ℕ) → Member x (filter f l) → Member x l × (f x ≡ true)
-unfolding filter
-in_filter f x [] i = absurd i
-in_filter f x (y ∷ l) i = go (f y) refl (in_filter f x l) i
-  where
-    go : (b : Bool) → f y ≡ b → (Member x (filter f l) → Member x l × (f x ≡ true)) → Member x (cond b (y ∷ filter f l) (filter f l)) → Member x (y ∷ l) × (f x ≡ true)
-    go true e rest (inl h) = (inl h, ap f h ∙ e)
-    go true e rest (inr j) = let r = rest j in (inr r.0, r.1)
-    go false e rest j = let r = rest j in (inr r.0, r.1)
-
-pub filter_in : (f : ℕ → Bool) (x : ℕ) (l : List ℕ) → Member x l → f x ≡ true → Member x (filter f l)
-unfolding filter
-filter_in f x (y ∷ l) i h = go (f y) refl (λ j. filter_in f x l j h) i
-  where
-    go : (b : Bool) → f y ≡ b → (Member x l → Member x (filter f l)) → Member x (y ∷ l) → Member x (cond b (y ∷ filter f l) (filter f l))
-    go true e rest (inl p) = inl p
-    go true e rest (inr j) = inr (rest j)
-    go false e rest (inl p) =
-        let t : true ≡ false = sym h ∙ (ap f p ∙ e) in
-        let z : ◌≡◌ {A = ℕ} 0 1 = cc in
-        absurd (omega arith)
-    go false e rest (inr j) = rest j
-filter_in f x [] i h = elim i [ ]
-
 later_ascends : (n : ℕ) (l : List ℕ) → Ascending (suc n) l → Ascending n l
 later_ascends n [] a = a
 later_ascends n (x ∷ l) a = ((let b : suc n ≤ x = a.0 in omega arith), a.1)
@@ -485,11 +451,11 @@ module _ (g : PortGraph) where
 
   pub listed_port_is_live : (p : ℕ) → Member p (all_ports g) → contains_port g p ≡ true
   unfolding all_ports is_port_in
-  listed_port_is_live p i = (in_filter (is_port_in g.port_meta) p _ i).1
+  listed_port_is_live p i = (member_filter (is_port_in g.port_meta) p _ i).1
 
   pub live_port_is_listed : (p : ℕ) → contains_port g p ≡ true → Member p (all_ports g)
   unfolding all_ports is_port_in port_entry
-  live_port_is_listed p h = filter_in (is_port_in g.port_meta) p _ (range_member p 0 port_slots (omega arith) (inside (ltb p port_slots) refl)) h
+  live_port_is_listed p h = filter_member (is_port_in g.port_meta) p _ (range_member p 0 port_slots (omega arith) (inside (ltb p port_slots) refl)) h
     where
       inside : (b : Bool) → ltb p port_slots ≡ b → p < 0 + port_slots
       inside true e = let l : p < port_slots = ltb-true _ _ e in omega arith

@@ -62,8 +62,12 @@ ports_in (Some m) sides = ports_of_node m sides
 
 -- Links of a node, on one side or both, without those to a range of ports.
 
+-- a port's link, told from there
+abbrev pub link_in : List ℕ → ℕ → Link
+link_in links p = record { from = port# p; to = port# (far_in links p) }
+
 abbrev pub link_at : PortGraph → ℕ → Link
-link_at g p = record { from = port# p; to = port# (far_in g.port_link p) }
+link_at g p = link_in g.port_link p
 
 -- the ports that have such a link
 abbrev pub linked_ports : PortGraph → ℕ → Sides → ℕ → ℕ → List ℕ

@@ -10,7 +10,7 @@ use Rattle.port_tables.specs.Entries.{fresh_slot, port_entry, ports_on, same_sid
 use Rattle.port_tables.specs.Tables.{at, cut, link_both, link_count}
 use Rattle.port_tables.specs.TableSteps.{at_outside}
 use Rattle.portgraph.specs.Model.{Wf}
-use Rattle.portgraph.specs.Lookups.{meta_at, port_at, start_of, offset_in, offset_of, port_offset, port_in, link_of, port_link}
+use Rattle.portgraph.specs.Lookups.{meta_at, port_at, start_of, offset_in, offset_of, port_offset, port_in, port_link}
 use Rattle.portgraph.specs.Calls.{new_graph, with_links, link_refused, link_free, link_entries, link_sides, link_ports, unlink_entry, unlink_port}
 use Rattle.port_tables.specs.ResizeLinks.{BlockFits}
 use Rattle.portgraph.specs.WfFacts.{block_fits}
@@ -114,20 +114,6 @@ index_inside g n i k q m o hm hi hk h hq =
     e ∙ ap (λ (x : Option NodeMeta). port_in x o) hm
 
 -- Links.
-
-pub no_link : (g : PortGraph) (p w far : ℕ) (o : PortMeta) → port_variants.Port o ≡ port_at g p → w ≡ p → far ≡ at g.port_link w → far ≡ 0
-    → Ok None ≡ port_link g p
-no_link g p w far o ho hw hf h =
-    let z = sym (hf ∙ ap (at g.port_link) hw) ∙ h in
-    let e : (Ok None) ≡ link_of g p (port_variants.Port o) = rw (eq-eqb (at g.port_link p) 0 z) in
-    e ∙ ap (link_of g p) ho
-
-pub link_to : (g : PortGraph) (p w far : ℕ) (o : PortMeta) → port_variants.Port o ≡ port_at g p → w ≡ p → far ≡ at g.port_link w → (far ≡ 0 → ⊥)
-    → Ok (Some (port# (far - 1))) ≡ port_link g p
-link_to g p w far o ho hw hf h =
-    let z = hf ∙ ap (at g.port_link) hw in
-    let e : Ok (Some (port# (at g.port_link p - 1))) ≡ link_of g p (port_variants.Port o) = rw (ne_eqb (at g.port_link p) 0 (λ q. h (z ∙ q))) in
-    ap (λ (x : ℕ). Ok (Some (port# (x - 1)))) z ∙ e ∙ ap (link_of g p) ho
 
 pub link_unknown : (g : PortGraph) (a b : ℕ) → port_variants.Free ≡ port_at g a → link_refused g (Err (link_error.UnknownPort (port# a))) ≡ link_ports g a b
 unfolding link_ports

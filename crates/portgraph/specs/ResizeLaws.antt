@@ -4,7 +4,7 @@ use Rattle.std.specs.Prelude.{◌≡◌, Bool, List, [], ◌∷◌, eqb, leb, lt
 use Rattle.std.proofs.Math.Path.{refl, ap, subst}
 use Rattle.std.proofs.Common.{sym, ◌∙◌, inl, arith, get_or-set_other, ltb-true, ltb-false, leb-true, leb-false, eqb-true, lt-ltb, le-leb, eq-eqb}
 use Rattle.std.proofs.Math.Bool.{true, false, cond}
-use Prim.Native.Nat.{ℕ, zero, suc, ◌+◌, ◌-◌, ◌*◌, ◌≤◌, ◌<◌}
+use Prim.Native.Nat.{ℕ, zero, suc, ◌+◌, ◌*◌, ◌≤◌, ◌<◌}
 use Rattle.std.proofs.Math.ListN.{length, length-append}
 use Rattle.std.proofs.lemmas.List.Edits.{sets, sets-eq}
 use Rattle.std.proofs.Math.Seq.{length-sets, take_at}
@@ -20,7 +20,7 @@ use Rattle.port_tables.specs.Entries.{new_count}
 use Rattle.portgraph.specs.Joins.{drop_kept}
 use Rattle.port_tables.specs.Listing.{zero_is_not_one}
 use Rattle.portgraph.specs.Resize.{Plan, refuse, same, inside, anew, plan_block, plan_counts, plan_entry, plan_of, dropped, resize_inside, inside_told, resize_anew, anew_told, set_by, told_by, set_num_ports, moves_after, set_num_ports_under, plan_of_under, moves_after_under}
-use Rattle.port_tables.specs.ResizeLinks.{round_up, same_counts, fits_inside, first_slot, kept_incoming, kept_outgoing, drop_count, drop_told, anew_links}
+use Rattle.port_tables.specs.ResizeLinks.{round_up, same_counts, fits_inside, first_slot, kept_incoming, kept_outgoing, drop_told}
 use Rattle.portgraph.specs.ResizeSteps.{round_up_reaches, round_up_positive, round_up_fits, round_up_beyond, length_move_up_events, length_drop_told, fits_below}
 use Rattle.portgraph.specs.GoodSlots.{block_of_one, slot_in_block}
 use Rattle.portgraph.specs.GoodLaws.{good_resize, good_move}
@@ -29,8 +29,7 @@ use Rattle.portgraph.specs.PlaceLaws.{link_to}
 use Rattle.portgraph.specs.BlockHolds.{block_found_lem}
 use Rattle.portgraph.specs.SlotHolds.{block_room}
 use Rattle.portgraph.specs.InsideHolds.{inside_holds}
-use Rattle.portgraph.specs.AnewHolds.{nothing_cut, anew_holds}
-use Rattle.portgraph.specs.LentResize.{take_block, drop_ports, settle_anew}
+use Rattle.portgraph.specs.AnewHolds.{anew_holds}
 use Rattle.port_tables.specs.declared.node_entry.NodeMeta.{NodeMeta}
 use Rattle.port_tables.specs.declared.node_entry.NodeEntry.{NodeEntry}
 use Rattle.port_tables.specs.declared.node_entry.NodeEntry.TheVariants as node_variants
@@ -222,32 +221,6 @@ module _ (g : PortGraph) (n incoming outgoing : ℕ) (w : Wf g) where
             good = good_move w.good n m here incoming outgoing size fit some small room;
             holds = anew_holds w.good w.holds n m here incoming outgoing size fit some small room;
           })
-      go false q k = absurd (zero_is_not_one (cc))
-
-  -- taken, cut and settled: nothing is left to cut in the old block
-  pub anew_in_steps : (m : NodeMeta) (first : ℕ) → incoming + outgoing ≤ node_ports → entry_at g n ≡ node_variants.Node m
-      → find_block g.port_free g.port_len (round_up (incoming + outgoing)) ≡ Some first
-      → resize_anew g n m incoming outgoing first (round_up (incoming + outgoing))
-      ≡ settle_anew (drop_ports (take_block g (round_up (incoming + outgoing))) m incoming outgoing) n m incoming outgoing first (round_up (incoming + outgoing))
-  unfolding resize_anew settle_anew anew_links
-  anew_in_steps m first few e f = go (block_room w.model size) refl (sym (block_found_lem w.good w.holds size) ∙ f)
-    where
-      size : ℕ
-      size = round_up (incoming + outgoing)
-
-      go : (b : Bool) → block_room w.model size ≡ b → cond b (Some (next_block w.model size)) None ≡ Some first
-          → resize_anew g n m incoming outgoing first size ≡ settle_anew (drop_ports (take_block g size) m incoming outgoing) n m incoming outgoing first size
-      go true q k =
-          let here : w.model.node n ≡ live m = node_of_entry g w n m e in
-          let at_next : next_block w.model size ≡ first = cc in
-          let fit = round_up_reaches (incoming + outgoing) in
-          let some = round_up_positive (incoming + outgoing) in
-          let small = round_up_fits (incoming + outgoing) few in
-          let room = leb-true (w.model.port_len + growth size (w.model.free_blocks size)) port_slots q in
-          let none = nothing_cut w.good w.holds n m here incoming outgoing size fit some small room in
-          subst (λ (b : ℕ). resize_anew g n m incoming outgoing b size ≡ settle_anew (drop_ports (take_block g size) m incoming outgoing) n m incoming outgoing b size) at_next
-          (let all : g.link_count - drop_count g.port_link m incoming outgoing - 0 ≡ g.link_count - drop_count g.port_link m incoming outgoing = omega arith in
-          rw (none.0, none.1, all))
       go false q k = absurd (zero_is_not_one (cc))
 
 pub wf_set : (g : PortGraph) (n incoming outgoing room : ℕ) → Wf g → Wf (set_num_ports g n incoming outgoing room).graph

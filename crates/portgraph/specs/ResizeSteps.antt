@@ -1,8 +1,8 @@
 -- What the code of a change of counts takes from the definitions: the rounded total, the choices of the plan,
 -- and the events, which go one run after the other into the move list.
-use Rattle.std.specs.Prelude.{◌≡◌, Bool, cond, List, ◌++◌, ℕ, zero, suc, ◌+◌, ◌-◌, ◌*◌, ◌^◌, ◌≤◌, ◌<◌, min, ltb, length, set, Option, Some, None, Ok, Err}
+use Rattle.std.specs.Prelude.{◌≡◌, Bool, cond, List, ◌++◌, ℕ, zero, suc, ◌+◌, ◌-◌, ◌*◌, ◌^◌, ◌≤◌, ◌<◌, min, ltb, length, set, Some, None, Result, Ok, Err}
 use Rattle.std.proofs.Math.Path.{refl}
-use Rattle.std.proofs.Common.{sym, ap, ◌∙◌, append_assoc, pow-suc, arith}
+use Rattle.std.proofs.Common.{ap, append_assoc, pow-suc, arith}
 use Rattle.std.proofs.Math.Bool.{true, false}
 use Rattle.std.proofs.lemmas.Bool.{false≢true}
 use Rattle.std.proofs.Math.Nat.{pow-le-pow_right}
@@ -26,6 +26,7 @@ use Rattle.port_tables.specs.declared.node_entry.NodeEntry.TheVariants as node_v
 use Rattle.portgraph.specs.declared.portgraph.PortGraph.{PortGraph}
 use Rattle.portgraph.specs.declared.resize.PortsSet.{PortsSet}
 use Rattle.port_tables.specs.ResizeLinkSteps.{length_drop_events, told_after}
+use Rattle.portgraph.specs.declared.resize.SetError.{SetError}
 use Rattle.portgraph.specs.declared.resize.SetError.TheVariants as set_error
 
 powers_rise : (i j : ℕ) → i ≤ j → 2 ^ i ≤ 2 ^ j
@@ -164,6 +165,10 @@ module _ (g : PortGraph) (size first : ℕ) (some : 0 < size) (found : find_bloc
 
 -- The changed graph, and what is told.
 
+-- graph and answer of a call, from the equation of both
+pub set_in : {g : PortGraph} {a : Result ℕ SetError} {r : PortsSet} → ◌≡◌ {A = PortsSet} (record { graph = g; answer = a }) r → (g ≡ r.graph) × (a ≡ r.answer)
+set_in e = (ap (λ (x : PortsSet). x.graph) e, ap (λ (x : PortsSet). x.answer) e)
+
 module _ (g : PortGraph) (m : NodeMeta) (n i o f oi oo ki ko : ℕ) (ef : f ≡ first_slot m) (ei : oi ≡ m.incoming) (eo : oo ≡ m.outgoing) (eki : ki ≡ min oi i) (eko : ko ≡ min oo o) where
   pub inside_told_lem : (b b' b'' : List ℕ) → b' ≡ sets b 0 (drop_told g.port_link m i o) → b'' ≡ sets b' (3 * ((oi - ki) + (oo - ko))) (shift_events (ltb i oi) (f + oi) (f + i) ko) → b'' ≡ sets b 0 (inside_told g m i o)
   unfolding inside_told
@@ -214,15 +219,15 @@ module _ (g : PortGraph) (m : NodeMeta) (n i o f oi oo ki ko : ℕ) (ef : f ≡ 
       (told_after b b₁ b₂ (dropped m i o) drops ups one e₁ (rw (eki, eko, ef, ei, eo) at e₂))
       (rw (eki, eko, ef, ei, eo) at e₃))
 
-  pub anew_graph : (cap size first place head next rest cuts more old len count links links' : ℕ) (slot : NodeSlot) (t t₁ t₂ t₃ heads heads' owners owners' : List ℕ)
+  pub anew_graph : (cap size first place head cuts more len count links links' : ℕ) (slot : NodeSlot) (t t₁ t₂ t₃ heads heads' owners owners' : List ℕ)
       → cap ≡ m.capacity → size ≡ round_up (i + o) → find_block g.port_free g.port_len (round_up (i + o)) ≡ Some first
-      → head ≡ head_at g.port_free size → next ≡ at g.port_link first → rest ≡ rest_of head next
+      → head ≡ head_at g.port_free size
       → t ≡ drop_links g.port_link m i o → cuts ≡ drop_count g.port_link m i o
-      → heads ≡ put_head g.port_free size rest → len ≡ grown head g.port_len size
+      → heads ≡ put_head g.port_free size (rest_of (head_at g.port_free size) (at g.port_link first)) → len ≡ grown head g.port_len size
       → t₁ ≡ anew_links t m i o first size
       → owners ≡ own_block g.port_meta n (meta_of first i o size) → place ≡ n → slot ≡ node_slot_of (meta_of first i o size)
-      → more ≡ cut_count t₁ f cap → t₂ ≡ cut_range t₁ f cap → old ≡ head_at heads cap → t₃ ≡ chain_block t₂ f cap old
-      → owners' ≡ fill_range owners (first_slot m) m.capacity 0 → heads' ≡ put_head heads cap (first_slot m + 1)
+      → more ≡ cut_count t₁ f cap → t₂ ≡ cut_range t₁ f cap → t₃ ≡ chain_block t₂ m.first_port.0 m.capacity (head_at heads m.capacity)
+      → owners' ≡ fill_range owners (first_slot m) m.capacity 0 → heads' ≡ put_head heads m.capacity (first_slot m + 1)
       → count ≡ g.port_count - (oi + oo) → links ≡ g.link_count - cuts → links' ≡ links - more
       → ◌≡◌ {A = PortsSet}
       (record {
@@ -243,13 +248,10 @@ module _ (g : PortGraph) (m : NodeMeta) (n i o f oi oo ki ko : ℕ) (ef : f ≡ 
       })
       (set_by g n i o (anew m first))
   unfolding resize_anew
-  anew_graph cap size first place head next rest cuts more old len count links links' slot t t₁ t₂ t₃ heads heads' owners owners' ecap esize found ehead enext erest et ecuts eheads elen et₁ eow ep es emore et₂ eold et₃ eow' eheads' ecount elinks elinks' =
+  anew_graph cap size first place head cuts more len count links links' slot t t₁ t₂ t₃ heads heads' owners owners' ecap esize found ehead et ecuts eheads elen et₁ eow ep es emore et₂ et₃ eow' eheads' ecount elinks elinks' =
       let positive : 0 < size = omega (arith, round_up_positive (i + o)) in
-      let after : rest ≡ head_after g size = rest_after g size first positive (rw esize found) head next rest ehead enext erest in
-      rw (et₃, et₂, eold, eow', eow, eheads', eheads, elen, ep, es, elinks', elinks, emore, et₁, et, ecuts, ecount, ehead, after, ecap, esize, eki, eko, ei, eo, ef)
-
-pub block_found_lem : (heads : List ℕ) (len size total : ℕ) (r f : Option ℕ) → size ≡ round_up total → r ≡ find_block heads len size → r ≡ f → find_block heads len (round_up total) ≡ f
-block_found_lem heads len size total r f e h k = rw (← e) (sym h ∙ k)
+      let after : rest_of (head_at g.port_free size) (at g.port_link first) ≡ head_after g size = rest_after g size first positive (rw esize found) _ _ _ refl refl refl in
+      rw (et₃, et₂, eow', eow, eheads', eheads, elen, ep, es, elinks', elinks, emore, et₁, et, ecuts, ecount, ehead, after, ecap, esize, eki, eko, ei, eo, ef)
 
 pub fits_below : (m : NodeMeta) (i o : ℕ) → fits_inside m i o ≡ true → i + o ≤ m.capacity
 unfolding fits_inside

@@ -1,23 +1,26 @@
 -- Taking and giving back node slots and blocks: what a found slot or block is, and which definition the stores of a call amount to.
 -- A law of a found slot takes the equation that says so; the last laws give the graph and answer of a whole call, field by field.
-use Rattle.std.specs.Prelude.{◌≡◌, refl, Bool, true, false, cond, List, ℕ, ◌+◌, ◌-◌, ◌≤◌, ◌<◌, eqb, leb, ltb, length, get_or, set, Some, None, Ok, Err}
+use Rattle.std.specs.Prelude.{◌≡◌, refl, Bool, true, false, cond, List, ℕ, ◌+◌, ◌-◌, ◌≤◌, ◌<◌, eqb, leb, ltb, length, get_or, set, Some, None, Result, Ok, Err}
 use Rattle.std.proofs.Common.{ap, ◌∙◌, arith, set-set, le-ltb, le-leb, eq-eqb, ne_eqb, ltb-true, leb-true, leb-false, eqb-true}
 use Rattle.std.proofs.Math.Seq.{set_out}
-use Rattle.std.proofs.lemmas.Bool.{lt-leb, eqb-false}
+use Rattle.std.proofs.lemmas.Bool.{eqb-false}
 use Rattle.port_tables.specs.Limits.{node_slots, port_slots, node_ports}
 use Rattle.port_tables.specs.Entries.{fresh_slot, with_prev, set_prev, next_of, node_slot_of, free_slot_of, meta_of, node#, port#}
 use Rattle.port_tables.specs.Tables.{at, fill_range, head_at, put_head, own_block, cut_range, cut_count, chain_block}
 use Rattle.portgraph.specs.Lookups.{entry_at}
-use Rattle.portgraph.specs.Calls.{find_slot, find_block, rest_of, grown, slot_after, free_after, head_after, place_node, add_refused, add_node, add_numbers, free_node, remove_node, remove_numbers, find_block_under, find_slot_under, add_node_under}
+use Rattle.portgraph.specs.Calls.{find_slot, find_block, rest_of, grown, slot_after, free_after, head_after, place_node, add_refused, add_node, free_node, remove_node, find_block_under, find_slot_under, add_node_under}
 use Rattle.portgraph.specs.Model.{Wf}
 use Rattle.portgraph.specs.WfFacts.{node_free_fits, head_fits}
 use Rattle.port_tables.specs.declared.node_entry.NodeMeta.{NodeMeta}
-use Rattle.port_tables.specs.declared.node_entry.FreeNodeEntry.{FreeNodeEntry}
 use Rattle.port_tables.specs.declared.node_entry.NodeSlot.{NodeSlot}
 use Rattle.port_tables.specs.declared.node_entry.NodeEntry.TheVariants as node_variants
 use Rattle.portgraph.specs.declared.portgraph.PortGraph.{PortGraph}
 use Rattle.portgraph.specs.declared.alloc.NodeAdded.{NodeAdded}
 use Rattle.portgraph.specs.declared.alloc.NodeRemoved.{NodeRemoved}
+use Rattle.port_tables.specs.declared.index.NodeIndex.{NodeIndex}
+use Rattle.port_tables.specs.declared.index.PortIndex.{PortIndex}
+use Rattle.portgraph.specs.declared.alloc.AddError.{AddError}
+use Rattle.portgraph.specs.declared.alloc.NoSuchNode.{NoSuchNode}
 use Rattle.portgraph.specs.declared.alloc.AddError.TheVariants as add_error
 
 pub block_at_end : (heads : List ℕ) (len size : ℕ) → (size ≡ 0 → ⊥) → head_at heads size ≡ 0 → len + size ≤ port_slots → Some len ≡ find_block heads len size
@@ -101,15 +104,6 @@ stores_after nodes code n p s e = go (eqb code 0) refl
     go true f = rw f (set-set nodes n (with_prev (get_or nodes n fresh_slot) p) s)
     go false f = rw f (inside (eqb-false code 0 f) (leb code node_slots) refl)
 
--- Adding a node. Refusals first.
-pub too_many_ports : (g : PortGraph) (i o : ℕ) → node_ports < i + o → add_refused g (Err add_error.TooManyPorts) ≡ add_node g i o
-unfolding add_node_under
-too_many_ports g i o h = rw (lt-leb (i + o) node_ports h)
-
-pub no_node_slot : (g : PortGraph) (i o : ℕ) → i + o ≤ node_ports → find_slot g.node_free g.node_len ≡ None → add_refused g (Err add_error.NoRoom) ≡ add_node g i o
-unfolding add_node_under
-no_node_slot g i o h e = rw (le-leb (i + o) node_ports h, e)
-
 pub no_block : (g : PortGraph) (i o n : ℕ) → i + o ≤ node_ports → find_slot g.node_free g.node_len ≡ Some n → find_block g.port_free g.port_len (i + o) ≡ None → add_refused g (Err add_error.NoRoom) ≡ add_node g i o
 unfolding add_node_under
 no_block g i o n h e f = rw (le-leb (i + o) node_ports h, e, f)
@@ -118,12 +112,13 @@ node_placed : (g : PortGraph) (i o n b : ℕ) → i + o ≤ node_ports → find_
 unfolding add_node_under
 node_placed g i o n b h e f = rw (le-leb (i + o) node_ports h, e, f)
 
-pub added_numbers : {r s : NodeAdded} → r ≡ s → (r ≡ s) × (add_numbers r.answer ≡ add_numbers s.answer)
-added_numbers e = (e, ap (λ (x : NodeAdded). add_numbers x.answer) e)
+-- graph and answer of a call, from the equation of both
+pub added_in : {g : PortGraph} {a : Result (NodeIndex × PortIndex) AddError} {r : NodeAdded} → ◌≡◌ {A = NodeAdded} (record { graph = g; answer = a }) r → (g ≡ r.graph) × (a ≡ r.answer)
+added_in e = (ap (λ (x : NodeAdded). x.graph) e, ap (λ (x : NodeAdded). x.answer) e)
 
 -- each value that the call computes, in its order, and the graph with these values
 pub node_added :
-    (g : PortGraph) (i o n b : ℕ) {next free after nlen head link first plen : ℕ} {beside own : NodeSlot} {heads links owners : List ℕ} →
+    (g : PortGraph) (i o n b : ℕ) {next free after nlen head plen : ℕ} {beside own : NodeSlot} {heads links owners : List ℕ} →
     i + o ≤ node_ports →
     find_slot g.node_free g.node_len ≡ Some n →
     find_block g.port_free g.port_len (i + o) ≡ Some b →
@@ -135,9 +130,7 @@ pub node_added :
     own ≡ node_slot_of (meta_of b i o (i + o)) →
     nlen ≡ grown g.node_free g.node_len 1 →
     head ≡ head_at g.port_free (i + o) →
-    link ≡ at g.port_link b →
-    first ≡ rest_of head link →
-    heads ≡ put_head g.port_free (i + o) first →
+    heads ≡ put_head g.port_free (i + o) (rest_of (head_at g.port_free (i + o)) (at g.port_link b)) →
     plen ≡ grown head g.port_len (i + o) →
     links ≡ fill_range g.port_link b (i + o) 0 →
     owners ≡ own_block g.port_meta n (meta_of b i o (i + o)) →
@@ -157,25 +150,19 @@ pub node_added :
       answer = Ok (node# n, port# b);
     }) (add_node g i o)
 unfolding place_node
-node_added g i o n b {next} {free} {after} {nlen} {head} {link} {first} {plen} {beside} {own} {heads} {links} {owners} h s f long e1 e2 e3 e4 e5 e6 e7 e8 e9 e10 e11 e12 e13 =
+node_added g i o n b {next} {free} {after} {nlen} {head} {plen} {beside} {own} {heads} {links} {owners} h s f long e1 e2 e3 e4 e5 e6 e7 e10 e11 e12 e13 =
     let free_is : free ≡ free_after g = e2 ∙ ap (rest_of g.node_free) e1 ∙ rest_of_slots g.node_free g.node_len n (λ (x : ℕ). next_of (entry_at g x)) (slot_found _ _ n s) in
-    let first_is : first ≡ rest_of (head_at g.port_free (i + o)) (at g.port_link b) = rw (e9, e7, e8) in
-    let heads_is : heads ≡ put_head g.port_free (i + o) (head_after g (i + o)) = e10 ∙ ap (put_head g.port_free (i + o)) first_is ∙ rest_of_blocks g.port_free (head_at g.port_free (i + o)) g.port_len (i + o) b (at g.port_link) (block_found_lem _ _ _ b f) in
+    let heads_is : heads ≡ put_head g.port_free (i + o) (head_after g (i + o)) = e10 ∙ rest_of_blocks g.port_free (head_at g.port_free (i + o)) g.port_len (i + o) b (at g.port_link) (block_found_lem _ _ _ b f) in
     let plen_is : plen ≡ grown (head_at g.port_free (i + o)) g.port_len (i + o) = rw (e11, e7) in
     let after_is : after ≡ slot_after (free_after g) n = rw (e3, free_is) in
     let nodes_is : set (set g.node_meta after beside) n own ≡ set (set_prev g.node_meta (free_after g) 0) n (node_slot_of (meta_of b i o (i + o))) = rw (e4, e5, after_is) (stores_after g.node_meta (free_after g) n 0 (node_slot_of (meta_of b i o (i + o))) long) in
     rw (nodes_is, e12, e13, heads_is, free_is, e6, plen_is) (node_placed g i o n b h s f)
 
--- Removing a node.
-pub no_node : (g : PortGraph) (n : ℕ) {f : FreeNodeEntry} → entry_at g n ≡ node_variants.Free f → ◌≡◌ {A = NodeRemoved} (record { graph = g; answer = Err (record {}) }) (remove_node g n)
-unfolding remove_node
-no_node g n e = rw e
-
-pub removed_numbers : {r s : NodeRemoved} → r ≡ s → (r ≡ s) × (remove_numbers r.answer ≡ remove_numbers s.answer)
-removed_numbers e = (e, ap (λ (x : NodeRemoved). remove_numbers x.answer) e)
+pub removed_in : {g : PortGraph} {a : Result (Unit {0}) NoSuchNode} {r : NodeRemoved} → ◌≡◌ {A = NodeRemoved} (record { graph = g; answer = a }) r → (g ≡ r.graph) × (a ≡ r.answer)
+removed_in e = (ap (λ (x : NodeRemoved). x.graph) e, ap (λ (x : NodeRemoved). x.answer) e)
 
 pub node_removed :
-    (g : PortGraph) (n : ℕ) (m : NodeMeta) {place first size after cuts head node_count ports port_count link_count : ℕ} {beside own : NodeSlot} {cutLinks links owners heads : List ℕ} →
+    (g : PortGraph) (n : ℕ) (m : NodeMeta) {place first size after cuts node_count ports port_count link_count : ℕ} {beside own : NodeSlot} {cutLinks links owners heads : List ℕ} →
     entry_at g place ≡ node_variants.Node m →
     length g.node_meta ≡ node_slots →
     place ≡ n →
@@ -186,10 +173,9 @@ pub node_removed :
     own ≡ free_slot_of 0 g.node_free →
     cuts ≡ cut_count g.port_link first size →
     cutLinks ≡ cut_range g.port_link first size →
-    head ≡ head_at g.port_free size →
-    links ≡ chain_block cutLinks first size head →
+    links ≡ chain_block cutLinks m.first_port.0 m.capacity (head_at g.port_free m.capacity) →
     owners ≡ fill_range g.port_meta m.first_port.0 m.capacity 0 →
-    heads ≡ put_head g.port_free size (m.first_port.0 + 1) →
+    heads ≡ put_head g.port_free m.capacity (m.first_port.0 + 1) →
     node_count ≡ g.node_count - 1 →
     ports ≡ m.incoming + m.outgoing →
     port_count ≡ g.port_count - ports →
@@ -210,10 +196,9 @@ pub node_removed :
       answer = Ok tt;
     }) (remove_node g n)
 unfolding remove_node free_node
-node_removed g n m {place} {first} {size} {after} {cuts} {head} {node_count} {ports} {port_count} {link_count} {beside} {own} {cutLinks} {links} {owners} {heads} e long p e1 e2 e3 e4 e5 e6 e7 e8 e9 e10 e11 e12 e13 e14 e15 =
+node_removed g n m {place} {first} {size} {after} {cuts} {node_count} {ports} {port_count} {link_count} {beside} {own} {cutLinks} {links} {owners} {heads} e long p e1 e2 e3 e4 e5 e6 e7 e9 e10 heads_is e12 e13 e14 e15 =
     let entry_is : entry_at g n ≡ node_variants.Node m = rw p at e in
-    let links_is : links ≡ chain_block (cut_range g.port_link m.first_port.0 m.capacity) m.first_port.0 m.capacity (head_at g.port_free m.capacity) = rw (e9, e7, e8, e1, e2) in
-    let heads_is : heads ≡ put_head g.port_free m.capacity (m.first_port.0 + 1) = rw (e11, e2) in
+    let links_is : links ≡ chain_block (cut_range g.port_link m.first_port.0 m.capacity) m.first_port.0 m.capacity (head_at g.port_free m.capacity) = rw (e9, e7, e1, e2) in
     let ports_is : port_count ≡ g.port_count - (m.incoming + m.outgoing) = rw (e14, e13) in
     let count_is : link_count ≡ g.link_count - cut_count g.port_link m.first_port.0 m.capacity = rw (e15, e6, e1, e2) in
     let nodes_is : set (set g.node_meta after beside) place own ≡ set (set_prev g.node_meta g.node_free (n + 1)) n (free_slot_of 0 g.node_free) = rw (e4, e5, e3, p) (stores_after g.node_meta g.node_free n (n + 1) (free_slot_of 0 g.node_free) long) in

@@ -10,6 +10,7 @@ use Rattle.portgraph.specs.Model.{Model, Good, Holds, Wf, live, held as held_by,
 use Rattle.portgraph.specs.Lookups.{entry_at, meta_at, is_some, contains_node, port_at, is_port, contains_port, start_of, offset_in, offset_of, port_offset}
 use Rattle.port_tables.specs.ResizeLinks.{BlockFits}
 use Rattle.portgraph.specs.LookupSteps.{found_block_fits}
+use Rattle.portgraph.specs.Joins.{either_way}
 use Rattle.portgraph.specs.PlaceLaws.{entry_of_owner, meta_of_node}
 use Rattle.portgraph.specs.Walks.{node_from, node_held, step_nodes, port_held, ports_item, ports_beyond, step_ports, offset_found, offset_of_step, step_offsets}
 use Rattle.port_tables.specs.declared.direction.Direction.{Direction}
@@ -332,7 +333,7 @@ ports_within m (One Incoming) p a b = (omega arith, omega arith)
 ports_within m (One Outgoing) p a b = (omega arith, omega arith)
 ports_within m Both p a b = (omega arith, omega arith)
 
-ports_few : (m : NodeMeta) (sides : Sides) → ports_to m sides - ports_from m sides ≤ m.incoming + m.outgoing
+pub ports_few : (m : NodeMeta) (sides : Sides) → ports_to m sides - ports_from m sides ≤ m.incoming + m.outgoing
 ports_few m (One Incoming) = omega arith
 ports_few m (One Outgoing) = omega arith
 ports_few m Both = omega arith
@@ -464,10 +465,6 @@ gone_node_ends_walk g n e = step_where_gone g (suc n) (held_is_node g n ∙ e)
 
 pub gone_port_ends_walk : (g : PortGraph) (n : ℕ) (sides : Sides) (p : ℕ) → contains_port g p ≡ false → step_ports g (ports_cursor n sides (suc p)) ≡ None
 gone_port_ends_walk g n sides p e = step_where_port_gone g (ports_cursor n sides (suc p)) (held_is_port g p ∙ e)
-
-either_way {ℓ} : {A : Type ℓ} (b : Bool) (x : A) → cond b x x ≡ x
-either_way true x = refl
-either_way false x = refl
 
 pub gone_node_ends_its_ports : (g : PortGraph) (c : NodePorts) → meta_at g c.node.0 ≡ None → step_ports g c ≡ None
 unfolding step_ports

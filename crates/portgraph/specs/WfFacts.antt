@@ -8,6 +8,7 @@ use Rattle.portgraph.specs.Lookups.{entry_at}
 use Rattle.portgraph.specs.Model.{Wf, Slots, gone, live, slots_of_entry, number_of_first, Chain, count_of, ports_of, is_live}
 use Rattle.port_tables.specs.ResizeLinks.{BlockFits}
 use Rattle.portgraph.specs.Sums.{total_bound, links_bound}
+use Rattle.portgraph.specs.Parts.{Resizes}
 use Rattle.port_tables.specs.declared.direction.Direction.TheVariants.{Outgoing}
 use Rattle.port_tables.specs.declared.node_entry.NodeMeta.{NodeMeta}
 use Rattle.port_tables.specs.declared.node_entry.NodeEntry.TheVariants as node_variants
@@ -94,3 +95,16 @@ module _ (g : PortGraph) (w : Wf g) where
       links_bound w.model.node w.model.join
       (λ n _. let a = out_small (w.model.node n) in let b = ports_small (w.model.node n) n refl in omega arith) in
       omega arith
+
+-- a node that is found, with counts that are few enough
+pub resizes : (g : PortGraph) → Wf g → (n : ℕ) (m : NodeMeta) (i o : ℕ) → entry_at g n ≡ node_variants.Node m → i + o ≤ node_ports → Resizes g n m i o
+resizes g w n m i o e few =
+    record {
+      wf = w;
+      live = e;
+      few = few;
+      fits = block_fits g w n m e;
+      below = node_below g w n m e;
+      used = port_len_fits g w;
+      counted = port_count_fits g w;
+    }

@@ -1,6 +1,7 @@
 // Adding and removing nodes: the free lists of node slots and of blocks of port slots.
 ghost use Rattle.std.specs.Prelude.{◌≡◌, ◌+◌, ◌*◌, ◌≤◌, ◌<◌};
 ghost use Rattle.port_tables.specs.Limits.{node_slots, port_slots};
+ghost use Rattle.port_tables.specs.Tables.{at, fill_range, head_at, put_head, chain_block, BlockWithin};
 ghost use Rattle.portgraph.specs.Model.{Wf};
 ghost use Rattle.portgraph.specs.Calls.{find_slot, find_block, rest_of, grown, slot_after, add_node, add_numbers, remove_node, remove_numbers};
 
@@ -28,7 +29,7 @@ pub struct NoSuchNode;
 #[derive(Clone, Copy)]
 pub struct NodeAdded {
     pub graph: PortGraph,
-    // The node, and its first port; 0 for a node without ports.
+    // The node, and its first port; 0 for a node without ports, which stays a number: the meta data of such a node have 0 there too.
     pub answer: Result<(NodeIndex, PortIndex), AddError>,
 }
 
@@ -45,10 +46,10 @@ pub struct NodeRemoved {
 pub fn find_slot(free: u32, len: usize) -> Option<usize>
     ensures { result ≡ find_slot free len }
 {
-    if free == 0 {
-        return (len < NODE_SLOTS).then_some(len);
+    match free.checked_sub(1) {
+        None => (len < NODE_SLOTS).then_some(len),
+        Some(slot) => Some(wide(slot)),
     }
-    Some(wide(free - 1))
 }
 
 // The block that is taken next: the one of exactly this size freed last, else the end. Stays beside `find_slot`: a block has a size, and one of 0 takes nothing.
@@ -60,19 +61,56 @@ pub fn find_block(heads: &[u32; FREE_LISTS], len: usize, size: usize) -> Option<
     if size == 0 {
         return Some(0);
     }
-    let head = head_at(heads, size);
-    if head == 0 {
-        return (len + size <= PORT_SLOTS).then_some(len);
+    match head_at(heads, size).checked_sub(1) {
+        None => (len + size <= PORT_SLOTS).then_some(len),
+        Some(first) => Some(wide(first)),
     }
-    Some(wide(head - 1))
 }
 
 // The first of a list of free ones after its first is taken, which names the next.
+// These stay words of a table, as in `find_slot`; so do those that `take_head` answers, and that `grown` and `slot_after` take.
 #[tactic(auto, unfolding(crate::specs::Calls::rest_of))]
 pub fn rest_of(head: u32, next: u32) -> u32
     ensures { result ≡ rest_of head next }
 {
     if head == 0 { 0 } else { next }
+}
+
+// Takes the first free block of a size off its list, and answers what the list began with; of an empty one nothing is taken.
+#[tactic(auto)]
+pub fn take_head(
+    heads: &mut [u32; FREE_LISTS],
+    links: &[u32; PORT_SLOTS],
+    first: usize,
+    size: usize,
+) -> u32
+    ensures { (result ≡ head_at heads.old size)
+        × (heads.new ≡ put_head heads.old size (rest_of (head_at heads.old size) (at links.now first))) }
+{
+    let head = head_at(heads, size);
+    put_head(heads, size, rest_of(head, at(links, first)));
+    head
+}
+
+// A node's block comes before the other free ones of its size, and its slots have no owner.
+// Takes three tables and no graph, as `take_head` takes two: it reads and writes no more.
+#[tactic(auto)]
+pub fn give_block<'a>(
+    heads: &'a mut [u32; FREE_LISTS],
+    links: &'a mut [u32; PORT_SLOTS],
+    owners: &'a mut [u32; PORT_SLOTS],
+    meta: NodeMeta,
+)
+    requires { BlockWithin meta }
+    ensures { (heads.new ≡ put_head heads.old meta.capacity (meta.first_port.0 + 1))
+        × (links.new ≡ chain_block links.old meta.first_port.0 meta.capacity (head_at heads.old meta.capacity))
+        × (owners.new ≡ fill_range owners.old meta.first_port.0 meta.capacity 0) }
+{
+    let first = meta.first_port.0;
+    let size = meta.capacity();
+    chain_block(links, wide(first), size, head_at(heads, size));
+    fill(owners, first, meta.capacity, 0);
+    put_head(heads, size, first + 1);
 }
 
 // A table's used length, where something of this size is taken: from the list, else at the end.
@@ -90,98 +128,95 @@ pub fn slot_after(code: u32, other: usize) -> usize
     requires { other < node_slots }
     ensures { (result ≡ slot_after code other) × (result < node_slots) }
 {
-    if code == 0 || NODE_SLOTS < wide(code) {
-        other
-    } else {
-        wide(code - 1)
+    match code.checked_sub(1) {
+        Some(slot) if wide(slot) < NODE_SLOTS => wide(slot),
+        _ => other,
     }
 }
 
 impl PortGraph {
     // Adds a node with a block of exactly incoming + outgoing slots.
-    #[tactic(auto, unfolding(crate::specs::Calls::add_node_under))]
     pub fn add_node(mut self, incoming: usize, outgoing: usize) -> NodeAdded
         requires { Wf self }
         ensures { (result ≡ add_node self incoming outgoing) × (add_numbers result.answer ≡ add_numbers (add_node self incoming outgoing).answer) }
     {
+        let answer = self.add_node_lent(incoming, outgoing);
+        NodeAdded {
+            graph: self,
+            answer,
+        }
+    }
+
+    // The same in place.
+    #[tactic(auto, unfolding(crate::specs::Calls::add_node_under))]
+    pub fn add_node_lent(
+        &mut self,
+        incoming: usize,
+        outgoing: usize,
+    ) -> Result<(NodeIndex, PortIndex), AddError>
+        requires { Wf self.old }
+        ensures { (self.new ≡ (add_node self.old incoming outgoing).graph)
+            × (result ≡ (add_node self.old incoming outgoing).answer)
+            × (add_numbers result ≡ add_numbers (add_node self.old incoming outgoing).answer) }
+    {
         if too_many_ports(incoming, outgoing) {
-            return NodeAdded {
-                graph: self,
-                answer: Err(AddError::TooManyPorts),
-            };
+            return Err(AddError::TooManyPorts);
         }
         let size = incoming + outgoing;
-        let Some(node) = find_slot(self.node_free, self.node_len) else {
-            return NodeAdded {
-                graph: self,
-                answer: Err(AddError::NoRoom),
-            };
-        };
-        let Some(first) = find_block(&self.port_free, self.port_len, size) else {
-            return NodeAdded {
-                graph: self,
-                answer: Err(AddError::NoRoom),
-            };
-        };
-        let meta = NodeMeta {
-            first_port: PortIndex(first as u32),
-            incoming: incoming as u16,
-            outgoing: outgoing as u16,
-            capacity: size as u16,
-        };
-        let slot = self.node_meta[node];
-        let free = rest_of(self.node_free, slot.next_free());
+        let node = find_slot(self.node_free, self.node_len).ok_or(AddError::NoRoom)?;
+        let first = find_block(&self.port_free, self.port_len, size).ok_or(AddError::NoRoom)?;
+        let meta = NodeMeta::new(first, incoming, outgoing, size);
+        let free = rest_of(self.node_free, self.node_meta[node].next_free());
         let after = slot_after(free, node);
-        let neighbour = self.node_meta[after];
-        self.node_meta[after] = neighbour.with_prev(0);
+        self.node_meta[after] = self.node_meta[after].with_prev(0);
         self.node_meta[node] = NodeSlot::new_node(meta);
         self.node_len = grown(self.node_free, self.node_len, 1);
         self.node_free = free;
-        let head = head_at(&self.port_free, size);
-        let rest = rest_of(head, at(&self.port_link, first));
-        put_head(&mut self.port_free, size, rest);
+        let head = take_head(&mut self.port_free, &self.port_link, first, size);
         self.port_len = grown(head, self.port_len, size);
         fill(&mut self.port_link, first as u32, size as u16, 0);
         own_block(&mut self.port_meta, node as u32, meta);
         self.node_count += 1;
         self.port_count += size;
-        NodeAdded {
-            graph: self,
-            answer: Ok((NodeIndex(node as u32), PortIndex(first as u32))),
-        }
+        Ok((NodeIndex(node as u32), PortIndex(first as u32)))
     }
 
     // Removes a node with the links of its ports. Its slot and its block are taken first from then on.
-    #[tactic(auto, unfolding(crate::specs::Calls::remove_node))]
     pub fn remove_node(mut self, node: NodeIndex) -> NodeRemoved
         requires { Wf self }
         ensures { (result ≡ remove_node self node.0) × (remove_numbers result.answer ≡ remove_numbers (remove_node self node.0).answer) }
     {
-        let Some(meta) = meta_of(&self.node_meta, node) else {
-            return NodeRemoved {
-                graph: self,
-                answer: Err(NoSuchNode),
-            };
-        };
+        let answer = self.remove_node_lent(node);
+        NodeRemoved {
+            graph: self,
+            answer,
+        }
+    }
+
+    // The same in place.
+    #[tactic(auto, unfolding(crate::specs::Calls::remove_node))]
+    pub fn remove_node_lent(&mut self, node: NodeIndex) -> Result<(), NoSuchNode>
+        requires { Wf self.old }
+        ensures { (self.new ≡ (remove_node self.old node.0).graph)
+            × (result ≡ (remove_node self.old node.0).answer)
+            × (remove_numbers result ≡ remove_numbers (remove_node self.old node.0).answer) }
+    {
+        let meta = meta_of(&self.node_meta, node).ok_or(NoSuchNode)?;
         let place = wide(node.0);
-        let first = wide(meta.first_port.0);
-        let size = usize::from(meta.capacity);
         let after = slot_after(self.node_free, place);
-        let neighbour = self.node_meta[after];
-        self.node_meta[after] = neighbour.with_prev((node.0 + 1) as u16);
+        self.node_meta[after] = self.node_meta[after].with_prev((node.0 + 1) as u16);
         self.node_meta[place] = NodeSlot::new_free(0, self.node_free as u16);
         self.node_free = node.0 + 1;
-        let cuts = cut_range(&mut self.port_link, first, size);
-        let head = head_at(&self.port_free, size);
-        chain_block(&mut self.port_link, first, size, head);
-        fill(&mut self.port_meta, meta.first_port.0, meta.capacity, 0);
-        put_head(&mut self.port_free, size, meta.first_port.0 + 1);
+        let cuts = cut_range(&mut self.port_link, meta.first(), meta.capacity());
+        give_block(
+            &mut self.port_free,
+            &mut self.port_link,
+            &mut self.port_meta,
+            meta,
+        );
         self.node_count = self.node_count.saturating_sub(1);
         self.port_count = self.port_count.saturating_sub(meta.port_count());
         self.link_count = self.link_count.saturating_sub(cuts);
-        NodeRemoved {
-            graph: self,
-            answer: Ok(()),
-        }
+        Ok(())
     }
 }

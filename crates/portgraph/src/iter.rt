@@ -1,4 +1,4 @@
-// Walks as cursors by value: a step takes the cursor and the present graph, and gives the item with the next cursor.
+// Walks as cursors by value: a step takes the cursor, reads the present graph where it lies, and gives the item with the next cursor.
 // A cursor holds the number given last, one higher than it; 0 at the start. It ends where what it holds is gone. Stays a number: a walk goes on from it.
 // Cursors, no Iterator: the graph may change between two steps, so a walk borrows none.
 ghost use Rattle.std.specs.Prelude.{◌≡◌};
@@ -44,12 +44,10 @@ impl PortGraph {
     pub fn ports(self, node: NodeIndex, sides: Sides) -> Result<NodePorts, NoSuchNode>
         ensures { (result ≡ start_ports self node sides) × (ports_start_numbers result ≡ ports_start_numbers (start_ports self node sides)) }
     {
-        if !self.contains_node(node) {
-            return Err(NoSuchNode);
-        }
+        self.node_meta_valid(node).ok_or(NoSuchNode)?;
         Ok(NodePorts {
-            node: node,
-            sides: sides,
+            node,
+            sides,
             held: 0,
         })
     }
@@ -59,34 +57,34 @@ impl PortGraph {
         ensures { (result ≡ start_offsets self node sides) × (offsets_start_numbers result ≡ offsets_start_numbers (start_offsets self node sides)) }
     {
         let ports = self.ports(node, sides)?;
-        Ok(NodePortOffsets { ports: ports })
+        Ok(NodePortOffsets { ports })
     }
 
     // Whether the node that a cursor holds is still there.
     fn node_held(self, held: u32) -> bool
         ensures { result ≡ node_held self held }
     {
-        held == 0 || self.contains_node(NodeIndex(held - 1))
+        held.checked_sub(1)
+            .is_none_or(|n| self.contains_node(NodeIndex(n)))
     }
 }
 
 impl Nodes {
-    pub fn step(self, graph: PortGraph) -> Option<(NodeIndex, Nodes)>
-        ensures { (result ≡ step_nodes graph self.held) × (nodes_step_numbers result ≡ nodes_step_numbers (step_nodes graph self.held)) }
+    pub fn step(self, graph: &PortGraph) -> Option<(NodeIndex, Nodes)>
+        ensures { (result ≡ step_nodes graph.now self.held) × (nodes_step_numbers result ≡ nodes_step_numbers (step_nodes graph.now self.held)) }
     {
-        let held = self.held;
-        if !graph.node_held(held) {
+        if !graph.node_held(self.held) {
             return None;
         }
-        let n = (wide(held)..NODE_SLOTS).find(|n| graph.node_meta[*n].is_node())?;
+        let n = (wide(self.held)..NODE_SLOTS).find(|n| graph.node_meta[*n].is_node())?;
         Some((NodeIndex(n as u32), Nodes { held: n as u32 + 1 }))
     }
 }
 
 impl NodePorts {
-    pub fn step(self, graph: PortGraph) -> Option<(PortIndex, NodePorts)>
-        requires { Wf graph }
-        ensures { (result ≡ step_ports graph self) × (ports_step_numbers result ≡ ports_step_numbers (step_ports graph self)) }
+    pub fn step(self, graph: &PortGraph) -> Option<(PortIndex, NodePorts)>
+        requires { Wf graph.now }
+        ensures { (result ≡ step_ports graph.now self) × (ports_step_numbers result ≡ ports_step_numbers (step_ports graph.now self)) }
     {
         let meta = node_left(&graph.node_meta, &graph.port_meta, self.node, self.held)?;
         let port = ports_left(meta, self.sides, self.held).next()?;
@@ -101,13 +99,12 @@ impl NodePorts {
 }
 
 impl NodePortOffsets {
-    pub fn step(self, graph: PortGraph) -> Option<(PortOffset, NodePortOffsets)>
-        requires { Wf graph }
-        ensures { (result ≡ step_offsets graph self) × (offsets_step_numbers result ≡ offsets_step_numbers (step_offsets graph self)) }
+    pub fn step(self, graph: &PortGraph) -> Option<(PortOffset, NodePortOffsets)>
+        requires { Wf graph.now }
+        ensures { (result ≡ step_offsets graph.now self) × (offsets_step_numbers result ≡ offsets_step_numbers (step_offsets graph.now self)) }
     {
-        let ports = self.ports;
-        let (port, next) = ports.step(graph)?;
+        let (port, ports) = self.ports.step(graph)?;
         let offset = graph.port_offset(port)?;
-        Some((offset, NodePortOffsets { ports: next }))
+        Some((offset, NodePortOffsets { ports }))
     }
 }

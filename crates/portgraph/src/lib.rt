@@ -4,7 +4,7 @@
 
 pub mod alloc;
 pub mod iter;
-pub mod lent_graph;
 pub mod link_iter;
 pub mod portgraph;
 pub mod resize;
+pub mod tables;

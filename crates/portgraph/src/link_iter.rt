@@ -6,7 +6,7 @@ ghost use Rattle.std.specs.Prelude.{◌≡◌, ◌-◌, ◌≤◌, ◌<◌, IfSo
 ghost use Rattle.port_tables.specs.Limits.{port_slots};
 ghost use Rattle.port_tables.specs.ResizeLinks.{BlockFits};
 ghost use Rattle.portgraph.specs.Model.{Wf};
-ghost use Rattle.portgraph.specs.LinkWalks.{is_port_in, held_in, is_kept, link_kept, is_of, link_to, step_links, links_numbers, start_links, links_start_numbers, step_neighbours, neighbours_numbers, start_neighbours, neighbours_start_numbers, step_connections, connections_numbers, start_connections, connections_start_numbers, step_all_ports, all_ports_numbers, first_where, before, node_left, ports_left, own_ports};
+ghost use Rattle.portgraph.specs.LinkWalks.{is_port_in, held_in, is_kept, link_kept, is_of, link_to, step_links, links_numbers, start_links, links_start_numbers, step_neighbours, neighbours_numbers, start_neighbours, neighbours_start_numbers, step_connections, connections_numbers, start_connections, connections_start_numbers, step_all_ports, all_ports_numbers, link_in, first_where, before, node_left, ports_left, own_ports};
 
 use crate::alloc::NoSuchNode;
 use crate::portgraph::{PortGraph, meta_of};
@@ -59,7 +59,7 @@ pub struct Ports {
     pub held: u32,
 }
 
-// Whether a port is live.
+// Whether a port is live. Reads the number alone, as `is_of` below: an entry read would be taken apart again; no plainer.
 #[tactic(auto, unfolding(crate::specs::LinkWalks::is_port_in, port_tables::specs::Entries::port_entry))]
 fn is_port_in(owners: &[u32; PORT_SLOTS], port: usize) -> bool
     ensures { result ≡ is_port_in owners.now port }
@@ -72,16 +72,19 @@ fn is_port_in(owners: &[u32; PORT_SLOTS], port: usize) -> bool
 fn held_in(owners: &[u32; PORT_SLOTS], held: u32) -> bool
     ensures { result ≡ held_in owners.now held }
 {
-    held == 0 || is_port_in(owners, wide(held - 1))
+    held.checked_sub(1)
+        .is_none_or(|port| is_port_in(owners, wide(port)))
 }
 
 // Whether there is a link and its far port, given one higher than its number, lies outside a range. The range is tested here and in multi_tables, each by its
 // own definition, in one line.
+// The far port stays a word, as the table and the definition have it; no plainer.
 #[tactic(auto, unfolding(crate::specs::LinkWalks::is_kept))]
 fn is_kept(far: u32, skip: PortRange) -> bool
     ensures { result ≡ is_kept far skip.from skip.to }
 {
-    far != 0 && (far - 1 < skip.from || skip.to <= far - 1)
+    far.checked_sub(1)
+        .is_some_and(|port| port < skip.from || skip.to <= port)
 }
 
 // The first of these ports whose link leads outside a range.
@@ -97,7 +100,7 @@ fn next_link(links: &[u32; PORT_SLOTS], mut left: Range<usize>, skip: PortRange)
 fn is_of(owner: u32, node: u32) -> bool
     ensures { result ≡ is_of node owner }
 {
-    owner != 0 && (owner - 1) / 2 == node
+    owner.checked_sub(1).is_some_and(|code| code / 2 == node)
 }
 
 // Whether a port is linked with a port of a node. Takes two tables and no graph: it reads no more.
@@ -110,8 +113,9 @@ fn link_to<'a>(
 ) -> bool
     ensures { result ≡ link_to links.now owners.now node port }
 {
-    let far = at(links, port);
-    far != 0 && is_of(at(owners, wide(far - 1)), node)
+    at(links, port)
+        .checked_sub(1)
+        .is_some_and(|far| is_of(at(owners, wide(far)), node))
 }
 
 // The first of these ports that is linked with a port of a node.
@@ -161,6 +165,7 @@ pub(crate) fn ports_left(meta: NodeMeta, sides: Sides, held: u32) -> Range<usize
 }
 
 // A node's outgoing ports, where the flag asks to leave them out.
+// Else none: a range without ports says that, and an Option would be tested at each port.
 #[tactic(auto, unfolding(crate::specs::LinkWalks::own_ports))]
 fn own_ports(meta: NodeMeta, flag: bool) -> PortRange
     requires { BlockFits meta }
@@ -176,6 +181,17 @@ fn own_ports(meta: NodeMeta, flag: bool) -> PortRange
     }
 }
 
+// The link of a port.
+fn link_at(links: &[u32; PORT_SLOTS], port: usize) -> Link
+    requires { port < port_slots }
+    ensures { result ≡ link_in links.now port }
+{
+    Link {
+        from: PortIndex(port as u32),
+        to: PortIndex(far_in(links, port)),
+    }
+}
+
 impl PortGraph {
     // Starts a walk over the links of a node on one side or both, without those to a range of ports.
     pub fn links(
@@ -186,13 +202,11 @@ impl PortGraph {
     ) -> Result<NodeLinks, NoSuchNode>
         ensures { (result ≡ start_links self node sides skip) × (links_start_numbers result ≡ links_start_numbers (start_links self node sides skip)) }
     {
-        if !self.contains_node(node) {
-            return Err(NoSuchNode);
-        }
+        self.node_meta_valid(node).ok_or(NoSuchNode)?;
         Ok(NodeLinks {
-            node: node,
-            sides: sides,
-            skip: skip,
+            node,
+            sides,
+            skip,
             held: 0,
         })
     }
@@ -206,13 +220,11 @@ impl PortGraph {
     ) -> Result<Neighbours, NoSuchNode>
         ensures { (result ≡ start_neighbours self node sides ignore_self) × (neighbours_start_numbers result ≡ neighbours_start_numbers (start_neighbours self node sides ignore_self)) }
     {
-        if !self.contains_node(node) {
-            return Err(NoSuchNode);
-        }
+        self.node_meta_valid(node).ok_or(NoSuchNode)?;
         Ok(Neighbours {
-            node: node,
-            sides: sides,
-            ignore_self: ignore_self,
+            node,
+            sides,
+            ignore_self,
             held: 0,
         })
     }
@@ -225,9 +237,8 @@ impl PortGraph {
     ) -> Result<NodeConnections, NoSuchNode>
         ensures { (result ≡ start_connections self from to) × (connections_start_numbers result ≡ connections_start_numbers (start_connections self from to)) }
     {
-        if !self.contains_node(from) || !self.contains_node(to) {
-            return Err(NoSuchNode);
-        }
+        self.node_meta_valid(from).ok_or(NoSuchNode)?;
+        self.node_meta_valid(to).ok_or(NoSuchNode)?;
         Ok(NodeConnections {
             node: from,
             target: to,
@@ -244,18 +255,15 @@ impl PortGraph {
 }
 
 impl NodeLinks {
-    pub fn step(self, graph: PortGraph) -> Option<(Link, NodeLinks)>
-        requires { Wf graph }
-        ensures { (result ≡ step_links graph self) × (links_numbers result ≡ links_numbers (step_links graph self)) }
+    pub fn step(self, graph: &PortGraph) -> Option<(Link, NodeLinks)>
+        requires { Wf graph.now }
+        ensures { (result ≡ step_links graph.now self) × (links_numbers result ≡ links_numbers (step_links graph.now self)) }
     {
         let meta = node_left(&graph.node_meta, &graph.port_meta, self.node, self.held)?;
         let left = ports_left(meta, self.sides, self.held);
         let port = next_link(&graph.port_link, left, self.skip)?;
         Some((
-            Link {
-                from: PortIndex(port as u32),
-                to: PortIndex(far_in(&graph.port_link, port)),
-            },
+            link_at(&graph.port_link, port),
             NodeLinks {
                 held: port as u32 + 1,
                 ..self
@@ -265,9 +273,9 @@ impl NodeLinks {
 }
 
 impl Neighbours {
-    pub fn step(self, graph: PortGraph) -> Option<(NodeIndex, Neighbours)>
-        requires { Wf graph }
-        ensures { (result ≡ step_neighbours graph self) × (neighbours_numbers result ≡ neighbours_numbers (step_neighbours graph self)) }
+    pub fn step(self, graph: &PortGraph) -> Option<(NodeIndex, Neighbours)>
+        requires { Wf graph.now }
+        ensures { (result ≡ step_neighbours graph.now self) × (neighbours_numbers result ≡ neighbours_numbers (step_neighbours graph.now self)) }
     {
         let meta = node_left(&graph.node_meta, &graph.port_meta, self.node, self.held)?;
         let left = ports_left(meta, self.sides, self.held);
@@ -285,19 +293,15 @@ impl Neighbours {
 }
 
 impl NodeConnections {
-    pub fn step(self, graph: PortGraph) -> Option<(Link, NodeConnections)>
-        requires { Wf graph }
-        ensures { (result ≡ step_connections graph self) × (connections_numbers result ≡ connections_numbers (step_connections graph self)) }
+    pub fn step(self, graph: &PortGraph) -> Option<(Link, NodeConnections)>
+        requires { Wf graph.now }
+        ensures { (result ≡ step_connections graph.now self) × (connections_numbers result ≡ connections_numbers (step_connections graph.now self)) }
     {
-        let target = self.target;
         let meta = node_left(&graph.node_meta, &graph.port_meta, self.node, self.held)?;
         let left = ports_left(meta, Sides::One(Direction::Outgoing), self.held);
-        let port = next_link_to(&graph.port_link, &graph.port_meta, left, target.0)?;
+        let port = next_link_to(&graph.port_link, &graph.port_meta, left, self.target.0)?;
         Some((
-            Link {
-                from: PortIndex(port as u32),
-                to: PortIndex(far_in(&graph.port_link, port)),
-            },
+            link_at(&graph.port_link, port),
             NodeConnections {
                 held: port as u32 + 1,
                 ..self
@@ -307,8 +311,8 @@ impl NodeConnections {
 }
 
 impl Ports {
-    pub fn step(self, graph: PortGraph) -> Option<(PortIndex, Ports)>
-        ensures { (result ≡ step_all_ports graph self) × (all_ports_numbers result ≡ all_ports_numbers (step_all_ports graph self)) }
+    pub fn step(self, graph: &PortGraph) -> Option<(PortIndex, Ports)>
+        ensures { (result ≡ step_all_ports graph.now self) × (all_ports_numbers result ≡ all_ports_numbers (step_all_ports graph.now self)) }
     {
         if !held_in(&graph.port_meta, self.held) {
             return None;

@@ -40,7 +40,7 @@ refusal_six (IncompatibleDirections p q d) h = absurd (omega arith)
 refusal_six (AlreadyLinked p) h = absurd (omega arith)
 refusal_six InputWired h = absurd (omega arith)
 
-first_kept : (l : List ℕ) → get_or (without_place l) 0 0 ≡ get_or l 0 0
+pub first_kept : (l : List ℕ) → get_or (without_place l) 0 0 ≡ get_or l 0 0
 first_kept [] = refl
 first_kept (x ∷ l) = refl
 

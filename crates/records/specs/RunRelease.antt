@@ -1,6 +1,6 @@
 -- A record run is of release 1, so no answer of a run is 18.
 use Rattle.std.specs.Prelude.{◌≡◌, refl, List, [], ◌∷◌, ℕ, get_or, Option, Some, None, Result, Ok, Err}
-use Rattle.std.proofs.Common.{◌∙◌, arith}
+use Rattle.std.proofs.Common.{sym, ◌∙◌, arith}
 use Rattle.portgraph.specs.Model.{Model}
 use Rattle.multiportgraph.specs.Answers.{cut_numbers}
 use Rattle.multi_tables.specs.EndAnswers.{refusal_numbers}
@@ -19,18 +19,15 @@ use Rattle.theorems.proofs.CutSubCall.{subport_link_refused}
 use Rattle.theorems.specs.ReleaseClaims.{first_of, number_of}
 use Rattle.theorems.proofs.ReleaseTheorems.{release_one_is_as_before}
 use Rattle.records.specs.Words.{Request}
+use Rattle.records.specs.RoomLaws.{first_kept}
 use Rattle.records.specs.Run.{Asked, call, link_of, counts, refused, asked, without_place, recorded, numbers, calls_of}
 use Rattle.multi_tables.specs.declared.answers.SubportIndex.{SubportIndex}
 use Rattle.multi_tables.specs.declared.answers.PortPlace.{PortPlace}
 
--- the first of some numbers, with and without a place after them
+-- the first of some numbers, as it is read
 first_is : (l : List ℕ) → first_of l ≡ get_or l 0 0
 first_is [] = refl
 first_is (n ∷ l) = refl
-
-first_kept : (l : List ℕ) → first_of l ≡ get_or (without_place l) 0 0
-first_kept [] = refl
-first_kept (n ∷ l) = refl
 
 number_recorded : (c : Call) (v : AnswerOf c) → number_of c v ≡ get_or (recorded c (numbers_of c v)) 0 0
 number_recorded (book.add_call i o) v = first_is (numbers_of (book.add_call i o) v)
@@ -39,8 +36,8 @@ number_recorded (book.set_call n i o room) v = first_is (numbers_of (book.set_ca
 number_recorded (book.link_call a b) v = first_is (numbers_of (book.link_call a b) v)
 number_recorded (book.link_clean_call a b) v = first_is (numbers_of (book.link_clean_call a b) v)
 number_recorded (book.link_sub_call p o q r) v = first_is (numbers_of (book.link_sub_call p o q r) v)
-number_recorded (book.cut_call p) v = first_kept (numbers_of (book.cut_call p) v)
-number_recorded (book.cut_sub_call p o) v = first_kept (numbers_of (book.cut_sub_call p o) v)
+number_recorded (book.cut_call p) v = first_is (numbers_of (book.cut_call p) v) ∙ sym (first_kept (numbers_of (book.cut_call p) v))
+number_recorded (book.cut_sub_call p o) v = first_is (numbers_of (book.cut_sub_call p o) v) ∙ sym (first_kept (numbers_of (book.cut_sub_call p o) v))
 number_recorded (book.tidy_call p) v = first_is (numbers_of (book.tidy_call p) v)
 
 -- asking for a subport's link is not refused with it

@@ -49,7 +49,7 @@ requests_later a b i (suc n) h =
     let e : 20 + i + 20 ≡ 20 + (i + 20) = omega arith in
     λ j. record { code = word_later a b 20 i h j; a = w 4 j; b = w 8 j; c = w 12 j; d = w 16 j } ∷ (ap (λ (p : ℕ). requests_from (a ++ b) p n) e ∙ requests_later a b (i + 20) n h) j
 
-requests_on : (rest request next : List ℕ) → rest ≡ request ++ next → length request ≡ 20 → requests_of rest ≡ request_at request 0 ∷ requests_of next
+pub requests_on : (rest request next : List ℕ) → rest ≡ request ++ next → length request ≡ 20 → requests_of rest ≡ request_at request 0 ∷ requests_of next
 unfolding requests_of requests_from
 requests_on rest request next e n =
     let l = ap length e ∙ length-append request next in

@@ -12,10 +12,12 @@ use multi_tables::answers::{Refusal, SubportIndex};
 use port_tables::index::{NodeIndex, PortIndex};
 
 // The five words of a record: 0 or the refusal, then values, the rest 0.
+// Stay numbers: the C entry writes them.
 #[derive(Clone, Copy)]
 pub struct Answer5(pub [u32; 5]);
 
 // A refusal with what it carries.
+// Stays a function, as those of answers below: a `From` would say its clause in a law beside it.
 pub fn refusal_words(refusal: Refusal) -> Answer5
     ensures { result.0 ≡ five (refusal_numbers refusal) }
 {
@@ -36,6 +38,7 @@ pub fn refusal_words(refusal: Refusal) -> Answer5
     }
 }
 
+// Of the answers below each has its own match: by `map_or_else` a closure would stand for its first arm, and no line would go.
 pub(crate) fn add_words(answer: Result<(NodeIndex, PortIndex), Refusal>) -> Answer5
     ensures { result.0 ≡ five (add_numbers answer) }
 {
@@ -71,9 +74,9 @@ pub fn link_words(answer: Result<(SubportIndex, SubportIndex), Refusal>) -> Answ
         Ok((x, y)) => Answer5([
             0,
             x.port.0,
-            x.subport_offset as u32,
+            u32::from(x.subport_offset),
             y.port.0,
-            y.subport_offset as u32,
+            u32::from(y.subport_offset),
         ]),
         Err(refusal) => refusal_words(refusal),
     }
@@ -84,7 +87,7 @@ pub(crate) fn cut_words(answer: Result<Option<SubportIndex>, Refusal>) -> Answer
     ensures { result.0 ≡ five (unplaced_numbers answer) }
 {
     match answer {
-        Ok(Some(x)) => Answer5([0, 1, x.port.0, x.subport_offset as u32, 0]),
+        Ok(Some(x)) => Answer5([0, 1, x.port.0, u32::from(x.subport_offset), 0]),
         Ok(None) => Answer5([0, 0, 0, 0, 0]),
         Err(refusal) => refusal_words(refusal),
     }

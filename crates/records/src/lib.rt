@@ -11,11 +11,8 @@ pub mod requests;
 // The words of an answer.
 pub mod answers;
 
-// One request on a graph that the caller holds, by value.
+// One request on a graph.
 pub mod ask;
 
-// One request, and the run, over a lent graph.
-pub mod lent;
-
-// The run by value, and the entry.
+// The run, and the entry.
 pub mod run;

@@ -36,12 +36,12 @@ fn all_zero(words: &[u32]) -> bool
 fn subport(port: u32, offset: u32) -> Option<SubportIndex>
     ensures { MatchOption result (65535 ≤ offset) (λ s. (offset < 65535) × (s ≡ subport# port offset)) }
 {
-    if offset >= 65535 {
-        return None;
-    }
+    let subport_offset = u16::try_from(offset)
+        .ok()
+        .filter(|offset| *offset < u16::MAX)?;
     Some(SubportIndex {
         port: PortIndex(port),
-        subport_offset: offset as u16,
+        subport_offset,
     })
 }
 

@@ -1,24 +1,24 @@
-// The run: each request in its turn, on the graph that the last one left.
+// The run: each request in its turn, on the graph that the last one left. No table is ever copied.
 ghost use Rattle.std.specs.Prelude.{◌≡◌, ◌%◌, length};
-ghost use Rattle.records.specs.Run.{answer_bytes, list_taken, returned, written};
+ghost use Rattle.multiportgraph.specs.WellFormed.{MultiWf};
+ghost use Rattle.records.specs.Words.{requests_of};
+ghost use Rattle.records.specs.Run.{answer_bytes, graph_from, list_taken, returned, written};
 
 use crate::answers::put_answer;
-use crate::ask::{ask, empty};
-use crate::lent::run_list;
+use crate::ask::ask_lent;
 use crate::requests::request_in;
+use multiportgraph::multiportgraph::MultiPortGraph;
 use port_tables::release::Release;
 
-// Runs a list from an empty graph of release 1, past refused calls, and lays every answer, by the calls that take the graph by value.
-fn run_all(requests: &[u8], answers: &mut [u8])
+// Runs a list from an empty graph of release 1, past refused calls, and lays every answer.
+pub(crate) fn run_list(requests: &[u8], answers: &mut [u8])
     requires { (length answers.old ≡ length requests.now) × (length requests.now % 20 ≡ 0) }
     ensures { answers.new ≡ answer_bytes requests.now }
 {
-    let mut graph = empty(Release::One);
+    let mut graph = MultiPortGraph::new(Release::One);
+    // The answers are laid by place: of chunks that are lent to be written, a proof keeps the length alone.
     for (k, request) in requests.chunks_exact(20).enumerate() {
-        let done = ask(graph, request_in(request));
-        let words = done.answer;
-        graph = done.graph;
-        put_answer(answers, 20 * k, words);
+        put_answer(answers, 20 * k, ask_lent(&mut graph, request_in(request)));
     }
 }
 
@@ -41,14 +41,14 @@ pub fn run_records(requests: &[u8], answers: &mut [u8]) -> u32
     0
 }
 
-// The same by the calls that take the graph by value: the plain form, which the entry over a lent graph equals. Stays beside it: its calls take the graph by value, and are other functions.
-pub fn run_by_value(requests: &[u8], answers: &mut [u8]) -> u32
-    ensures { (result ≡ returned requests.now answers.old)
-        × (answers.new ≡ written requests.now answers.old) }
+// Runs a list of requests on a graph, past refused calls. What stands after the last whole request is not read.
+pub fn run_on(graph: &mut MultiPortGraph, requests: &[u8])
+    requires { MultiWf graph.old }
+    ensures { (graph.new ≡ graph_from graph.old (requests_of requests.now))
+        × MultiWf graph.new }
 {
-    if !list_taken(requests, answers) {
-        return 1;
+    for request in requests.chunks_exact(20) {
+        // The answer goes nowhere.
+        let _ = ask_lent(graph, request_in(request));
     }
-    run_all(requests, answers);
-    0
 }

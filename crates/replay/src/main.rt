@@ -2,8 +2,6 @@
 // are run, and the program prints how many answers are equal. The check runs it on the list of `host/sample`.
 #![tactic(auto)]
 
-ghost use Rattle.std.specs.Prelude.{◌≤◌, length};
-
 use records::run::run_records;
 use std::fmt;
 use std::fmt::Write;
@@ -61,27 +59,25 @@ fn replay(input: &[u8], answers: &mut [u8]) -> Result<(usize, usize), Unfit> {
     ))
 }
 
-// Reads until the buffer is full, the input ends or a read fails, and tells how many bytes were read.
+// Reads until the buffer is full, the input ends or a read fails, and gives the part that was read.
 // Stays a while: each read says itself how far it came.
-fn read_full<I: Read>(source: &mut I, input: &mut [u8]) -> usize
-    ensures { result ≤ length input.new }
-{
+fn read_full<'a, I: Read>(source: &mut I, input: &'a mut [u8]) -> &'a [u8] {
     let mut len: usize = 0;
     while len < input.len() {
         match source.read(&mut input[len..]) {
-            Ok(0) | Err(_) => return len,
+            Ok(0) | Err(_) => return &input[..len],
             Ok(count) => len += count,
         }
     }
-    len
+    input
 }
 
 // What cannot be written is left out.
 fn main(rt: HostRuntime) {
     let mut input = [0u8; INPUT];
     let mut answers = [0u8; LIST];
-    let len = read_full(&mut rt.reader(), &mut input);
-    let _ = match replay(&input[..len], &mut answers) {
+    let recording = read_full(&mut rt.reader(), &mut input);
+    let _ = match replay(recording, &mut answers) {
         Ok((equal, count)) => println!(rt; "{equal} of {count} equal"),
         Err(unfit) => println!(rt; "{unfit}"),
     };

@@ -10,6 +10,7 @@ use multiportgraph::multiportgraph::MultiPortGraph;
 // One place more than a sheet may have entries, so that a sheet that is too long can be lent.
 pub const SHEET_PLACES: usize = SHEET_ENTRIES + 1;
 
+// Stays a struct: the graph and the places are given back of a sheet that is too long too.
 #[derive(Drop)]
 pub struct HeldLinked {
     pub graph: MultiPortGraph,
@@ -26,7 +27,7 @@ fn link_first(graph: MultiPortGraph, mut places: [SheetEntry; SHEET_PLACES], n: 
     HeldLinked {
         graph: done.graph,
         answer: done.answer,
-        places: places,
+        places,
     }
 }
 

@@ -12,6 +12,7 @@ use port_tables::index::PortIndex;
 pub const SHEET_ENTRIES: usize = 64;
 
 // Two ports that are to be linked, and space for the answer. Stays beside that of `sketches`: the sketch rests on no graph.
+// Its answer stays no Option: a sheet is done whole or not at all, and its own answer says which.
 #[derive(Clone, Copy)]
 pub struct SheetEntry {
     pub port_a: PortIndex,
@@ -25,17 +26,18 @@ impl SheetEntry {
         ensures { result ≡ to_be_done port_a port_b }
     {
         SheetEntry {
-            port_a: port_a,
-            port_b: port_b,
+            port_a,
+            port_b,
             answer: Err(Refusal::NoRoom),
         }
     }
 }
 
-// There are more than 64 entries: none was done. Stays beside that of `sketches`, as an entry does.
+// There are more than 64 entries: none was done. Stays beside that of `sketches`: the sketch rests on no graph, and the tables' crate, on which both rest, knows of no sheets.
 #[derive(Clone, Copy)]
 pub struct TooManyEntries;
 
+// Stays a struct, as the answers of `multiportgraph` are: a sheet that is too long is refused beside the graph.
 #[derive(Drop)]
 pub struct SheetLinked {
     pub graph: MultiPortGraph,
@@ -50,7 +52,7 @@ pub fn link_sheet(graph: MultiPortGraph, sheet: &mut [SheetEntry]) -> SheetLinke
 {
     if SHEET_ENTRIES < sheet.len() {
         return SheetLinked {
-            graph: graph,
+            graph,
             answer: Err(TooManyEntries),
         };
     }

@@ -1,41 +1,32 @@
-// Items of a listing: a block, an end, or a wire with the end that is asked for first.
+// Items of a listing, each on a line after two blanks: a block, an end, or a wire with the end that is asked for first.
 use crate::replies::with_end;
 use lines::show::Line;
 use port_tables::direction::Direction;
 use sketches::sketch::SketchEnd;
 use sketches::walks::SketchWire;
 
-#[derive(Clone, Copy)]
-pub enum Item {
-    Block(u32),
-    End(SketchEnd),
-    Wire(SketchEnd, SketchEnd),
+pub(crate) fn show_block(rt: &impl Print, name: u32) {
+    Line::of(b" ").number(name).write(rt);
 }
 
-impl Item {
-    // A wire, the end on a side first.
-    pub(crate) fn wire(wire: SketchWire, side: Direction) -> Self {
-        match side {
-            Direction::Incoming => Item::Wire(wire.into, wire.out),
-            Direction::Outgoing => Item::Wire(wire.out, wire.into),
-        }
-    }
+pub(crate) fn show_end(rt: &impl Print, end: SketchEnd) {
+    with_end(Line::of(b" "), end).write(rt);
+}
 
-    // The block at the far end of a wire, seen from a side.
-    pub(crate) fn far_block(wire: SketchWire, side: Direction) -> Self {
-        match side {
-            Direction::Incoming => Item::Block(wire.out.port.block),
-            Direction::Outgoing => Item::Block(wire.into.port.block),
-        }
-    }
+// A wire, the end on a side first.
+pub(crate) fn show_wire(rt: &impl Print, wire: SketchWire, side: Direction) {
+    let (near, far) = match side {
+        Direction::Incoming => (wire.into, wire.out),
+        Direction::Outgoing => (wire.out, wire.into),
+    };
+    with_end(with_end(Line::of(b" "), near), far).write(rt);
+}
 
-    // An item stands on a line after two blanks.
-    pub(crate) fn show(self, rt: &impl Print) {
-        let line = Line::of(b" ");
-        match self {
-            Item::Block(name) => line.number(name).write(rt),
-            Item::End(end) => with_end(line, end).write(rt),
-            Item::Wire(near, far) => with_end(with_end(line, near), far).write(rt),
-        }
-    }
+// The block at the far end of a wire, seen from a side.
+pub(crate) fn show_far_block(rt: &impl Print, wire: SketchWire, side: Direction) {
+    let far = match side {
+        Direction::Incoming => wire.out,
+        Direction::Outgoing => wire.into,
+    };
+    show_block(rt, far.port.block);
 }

@@ -21,6 +21,7 @@ pub(crate) fn show_linked_on(
 }
 
 // Links two ports.
+// Stays beside `link_clean`: one for both would take the call as a closure, and each would still name it.
 pub(crate) fn link(rt: &impl Print, sketch: &mut Sketch, order: Order) {
     let linked = sketch.link(port_at(order, 0), port_at(order, 3));
     show_linked_on(rt, Line::of(b""), linked);

@@ -9,6 +9,7 @@ use lines::text::next_word;
 use sketches::sketch::{SketchEnd, SketchPort};
 use sketches::tests::side_of;
 
+// Stays beside that of the console of a wiring: in one enum for both each console would have commands that it does not know.
 #[derive(Clone, Copy, PartialEq, Eq)]
 pub enum Command {
     New,
@@ -38,7 +39,8 @@ pub enum Command {
     Quit,
 }
 
-// A command with its numbers. Stays without its text, which goes beside it: most commands need the numbers alone, and names are words of the text.
+// A command with its numbers. Stays without its text, which goes beside it: of an order that borrowed it each function here would have a lifetime, and most commands need
+// the numbers alone.
 pub type Order = lines::orders::Order<Command>;
 
 const COMMANDS: [(Command, &'static [u8]); 25] = [

@@ -2,14 +2,15 @@
 
 use crate::links::show_linked_on;
 use crate::orders::Order;
-use lines::show::{Line, show_number, write_bytes};
+use crate::replies::show_too_many;
+use lines::show::{Line, show_number};
 use lines::text::{next_word, number_or_zero};
 use sketches::sheet::{SHEET_ENTRIES, no_entry};
-use sketches::sketch::{SheetEntry, SketchPort, TooManyEntries};
+use sketches::sketch::{SheetEntry, SketchPort};
 use sketches::tests::side_of;
 use sketches::totals::Sketch;
 
-// One place more than a sheet has entries, so that a sheet that is too long can be handed in.
+// One place more than a sheet has entries, so that a sheet that is too long can be handed in. Stays beside that of `sheets`: each sheet has its own most entries.
 const SHEET_PLACES: usize = SHEET_ENTRIES + 1;
 
 // The port that the next three numbers of a line name, and where they end.
@@ -25,7 +26,7 @@ fn read_port(text: &[u8], from: usize) -> (SketchPort, usize) {
     (port, position.to)
 }
 
-// The entries of a line from a place on.
+// The entries of a line from a place on. Stays beside that of the console of a wiring: what is read is each one's own, and the rest is three lines.
 fn put_entries(sheet: &mut [SheetEntry], text: &[u8], from: usize) {
     let mut at = from;
     for entry in sheet {
@@ -47,7 +48,7 @@ fn show_entries(rt: &impl Print, entries: &[SheetEntry]) {
     }
 }
 
-// A command that links the entries of a line, one after the other.
+// A command that links the entries of a line, one after the other. Stays in both consoles, as the entries do: the call and the answers are each one's own.
 pub(crate) fn link_sheet(rt: &impl Print, sketch: &mut Sketch, order: Order, text: &[u8]) {
     let mut places = [no_entry(); SHEET_PLACES];
     // Of a line with more entries all that fit are lent: the sheet is too long with them.
@@ -58,8 +59,6 @@ pub(crate) fn link_sheet(rt: &impl Print, sketch: &mut Sketch, order: Order, tex
             show_entries(rt, sheet);
             show_number(rt, sheet.len() as u64);
         }
-        Err(TooManyEntries) => {
-            write_bytes(rt, b"refused 14  # a sheet has at most 64 entries\n");
-        }
+        Err(reason) => show_too_many(rt, reason),
     }
 }

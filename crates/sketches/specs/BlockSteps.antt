@@ -1,16 +1,15 @@
 -- Adding, removing and resizing over the tables.
-use Rattle.std.specs.Prelude.{◌≡◌, refl, Bool, true, false, not, ◌||◌, List, ◌∷◌, map, ℕ, suc, ◌+◌, ◌≤◌, ◌<◌, eqb, leb, ltb, length, Result, Ok, Err}
+use Rattle.std.specs.Prelude.{◌≡◌, refl, Bool, true, false, cond, ◌||◌, List, ◌∷◌, map, ℕ, suc, ◌+◌, ◌≤◌, ◌<◌, leb, ltb, length, Result, Ok, Err}
 use Rattle.std.proofs.Common.{sym, ap, ◌∙◌, subst, add-one, arith, le-leb, lt-ltb, le-ltb, leb-false}
-use Rattle.std.proofs.lemmas.Bool.{lt-leb}
+use Rattle.std.proofs.lemmas.Bool.{or_parts, lt-leb}
 use Rattle.port_tables.specs.Lists.{filter}
 use Rattle.port_tables.specs.Limits.{node_slots, port_slots, node_ports}
 use Rattle.port_tables.specs.Listing.{length_map}
-use Rattle.port_tables.specs.Places.{Place, of_node, of_dropped, without}
-use Rattle.sketches.specs.Plan.{PlanBlock, Plan, has_block, ports_in_all}
+use Rattle.sketches.specs.Plan.{PlanBlock, Plan, has_block, is_there, ports_in_all}
 use Rattle.sketches.specs.PlanCalls.{most_adds, Sketched, leaves, add_block, remove_block, recount, set_counts}
 use Rattle.sketches.specs.PlanNumbers.{add_numbers, done_numbers}
 use Rattle.sketches.specs.PlanWf.{PlanWf}
-use Rattle.sketches.specs.CallsWf.{or_false, add_wf, remove_wf, resize_wf}
+use Rattle.sketches.specs.CallsWf.{add_wf, block_gone, remove_wf, block_resized, resize_wf}
 use Rattle.sketches.specs.Rows.{Table, rows_in, blocks_in, splits_in, wires_in, block_of, split_of, wire_of, missed}
 use Rattle.sketches.specs.RowReads.{blocks_left_lem, splits_left, wires_left}
 use Rattle.sketches.specs.Offsets.{length_rows}
@@ -18,8 +17,10 @@ use Rattle.sketches.specs.SketchTables.{Totals, plan_in, totals_counts, SketchWf
 use Rattle.sketches.specs.declared.rows.Row.{Row}
 use Rattle.sketches.specs.declared.tests.EndTest.TheVariants as ask
 use Rattle.sketches.specs.declared.tests.Test.TheVariants as test
-use Rattle.sketches.specs.declared.sketch.Reason.TheVariants.{TooManyPorts, UnknownBlock, NoRoom}
+use Rattle.sketches.specs.declared.sketch.Reason.TheVariants.{TooManyPorts, UnknownBlock, UnknownPort, NoRoom}
 use Rattle.sketches.specs.declared.sketch.Reason.{Reason}
+use Rattle.sketches.specs.declared.sketch.SketchPort.{SketchPort}
+use Rattle.sketches.specs.CallParts.{no_room, judge_port}
 
 -- the rows of the tables are as many as the plan's lists are long, so that they are within the tables
 pub length_blocks : (t : List Row) (n : ℕ) → length (blocks_in t n) ≡ n
@@ -40,10 +41,23 @@ leaves_as {A} {numbers} {called} K x e p q wf =
 pub tables_wf : {b s w : List Row} {h : Totals} {K : Plan} → Table b → Table s → Table w → plan_in b s w h ≡ K → PlanWf K → SketchWf b s w h
 tables_wf x y z e wf = record { block_table = x; split_table = y; wire_table = z; plan = subst PlanWf (sym e) wf }
 
--- Adding.
+-- A block, or a port, that was found.
 
-abbrev pub no_room : ℕ → ℕ → List PlanBlock → ℕ → Bool
-no_room adds count blocks ports = leb most_adds adds || (leb node_slots count || ltb port_slots (ports_in_all blocks + ports))
+pub block_so : (l : List PlanBlock) (n : ℕ) → cond {A = Result (Unit {0}) Reason} (has_block l n) (Ok tt) (Err UnknownBlock) ≡ Ok tt → has_block l n ≡ true
+block_so l n = go (has_block l n)
+  where
+    go : (b : Bool) → cond {A = Result (Unit {0}) Reason} b (Ok tt) (Err UnknownBlock) ≡ Ok tt → b ≡ true
+    go true e = refl
+    go false e = absurd (let z : ◌≡◌ {A = ℕ} 0 1 = cc in omega arith)
+
+pub port_so : (K : Plan) (x : SketchPort) → judge_port K x ≡ Ok tt → is_there K x ≡ true
+port_so K x = go (is_there K x)
+  where
+    go : (b : Bool) → cond {A = Result (Unit {0}) Reason} b (Ok tt) (Err UnknownPort) ≡ Ok tt → b ≡ true
+    go true e = refl
+    go false e = absurd (let z : ◌≡◌ {A = ℕ} 0 1 = cc in omega arith)
+
+-- Adding.
 
 abbrev new_block : Plan → ℕ → ℕ → Plan
 new_block K i o =
@@ -96,16 +110,6 @@ remove_unknown : (K : Plan) (n : ℕ) → has_block K.blocks n ≡ false → rem
 unfolding remove_block
 remove_unknown K n h = rw h
 
-abbrev block_gone : Plan → ℕ → Plan
-block_gone K n =
-    record {
-      release = K.release;
-      adds = K.adds;
-      blocks = filter (λ (b : PlanBlock). not (eqb b.name n)) K.blocks;
-      splits = filter (λ (s : Place). not (of_node n s)) K.splits;
-      wires = without (of_node n) K.wires;
-    }
-
 remove_accepted : (K : Plan) (n : ℕ) → has_block K.blocks n ≡ true → remove_block K n ≡ leaves (block_gone K n) (Ok tt)
 unfolding remove_block
 remove_accepted K n h = rw h
@@ -123,16 +127,6 @@ resize_unknown K n i o h k = rw (le-leb (i + o) node_ports h, k)
 resize_no_room : (K : Plan) (n i o : ℕ) → i + o ≤ node_ports → has_block K.blocks n ≡ true → port_slots < ports_in_all (map (recount n i o) K.blocks) → set_counts K n i o ≡ leaves K (Err NoRoom)
 unfolding set_counts
 resize_no_room K n i o h k l = rw (le-leb (i + o) node_ports h, k, lt-ltb port_slots (ports_in_all (map (recount n i o) K.blocks)) l)
-
-abbrev block_resized : Plan → ℕ → ℕ → ℕ → Plan
-block_resized K n i o =
-    record {
-      release = K.release;
-      adds = K.adds;
-      blocks = map (recount n i o) K.blocks;
-      splits = filter (λ (s : Place). not (of_dropped n i o s)) K.splits;
-      wires = without (of_dropped n i o) K.wires;
-    }
 
 resize_accepted : (K : Plan) (n i o : ℕ) → i + o ≤ node_ports → has_block K.blocks n ≡ true → ports_in_all (map (recount n i o) K.blocks) ≤ port_slots → set_counts K n i o ≡ leaves (block_resized K n i o) (Ok tt)
 unfolding set_counts
@@ -189,6 +183,6 @@ module _ (b s w : List Row) (h : Totals) (wf : SketchWf b s w h) (n : ℕ) where
 
 pub room_means : (adds count : ℕ) (l : List PlanBlock) (n : ℕ) → no_room adds count l n ≡ false → (adds < most_adds) × (count < node_slots)
 room_means adds count l n e =
-    let p = or_false (leb most_adds adds) (leb node_slots count || ltb port_slots (ports_in_all l + n)) e in
-    let q = or_false (leb node_slots count) (ltb port_slots (ports_in_all l + n)) p.1 in
+    let p = or_parts (leb most_adds adds) (leb node_slots count || ltb port_slots (ports_in_all l + n)) e in
+    let q = or_parts (leb node_slots count) (ltb port_slots (ports_in_all l + n)) p.1 in
     (leb-false most_adds adds p.0, leb-false node_slots count q.0)

@@ -20,10 +20,6 @@ use Rattle.sketches.specs.declared.sketch.SketchPort.{SketchPort}
 use Rattle.sketches.specs.declared.sketch.Reason.{Reason}
 use Rattle.sketches.specs.declared.sketch.Reason.TheVariants.{TooManyPorts, UnknownBlock, NoRoom}
 
-pub or_false : (a b : Bool) → (a || b) ≡ false → (a ≡ false) × (b ≡ false)
-or_false true b h = absurd (let z : ◌≡◌ {A = ℕ} 0 1 = cc in omega arith)
-or_false false b h = (refl, h)
-
 -- Blocks.
 
 unnamed : (l : List PlanBlock) (n : ℕ) (d : Direction) → ((b : PlanBlock) → Member b l → b.name < n) → ports_on_side l n d ≡ 0
@@ -74,7 +70,7 @@ fewer_ports f (b ∷ l) = go (f b) (fewer_ports f l)
     go true h = omega arith
     go false h = omega arith
 
-other_ports : (l : List PlanBlock) (n m : ℕ) (d : Direction) → (m ≡ n → ⊥) → ports_on_side (filter (λ (b : PlanBlock). not (eqb b.name n)) l) m d ≡ ports_on_side l m d
+pub other_ports : (l : List PlanBlock) (n m : ℕ) (d : Direction) → (m ≡ n → ⊥) → ports_on_side (filter (λ (b : PlanBlock). not (eqb b.name n)) l) m d ≡ ports_on_side l m d
 unfolding filter ports_on_side
 other_ports [] n m d h = refl
 other_ports (b ∷ l) n m d h = go (eqb b.name n) refl (other_ports l n m d h)
@@ -90,21 +86,22 @@ pub kept_offsets : (f : Wire → Bool) (l : List Wire) → ((w : Wire) → Membe
     (w : Wire) → Member w (filter f l) → (w.out.offset < most_subports) × (w.into.offset < most_subports)
 kept_offsets f l h w i = h w (member_filter f w l i).0
 
+-- a plan without a block
+abbrev pub block_gone : Plan → ℕ → Plan
+block_gone K n =
+    record {
+      release = K.release;
+      adds = K.adds;
+      blocks = filter (λ (b : PlanBlock). not (eqb b.name n)) K.blocks;
+      splits = filter (λ (s : Place). not (of_node n s)) K.splits;
+      wires = without (of_node n) K.wires;
+    }
+
 pub remove_wf : (K : Plan) (n : ℕ) → PlanWf K → PlanWf (remove_block K n).plan
 unfolding remove_block
 remove_wf K n wf = go (not (has_block K.blocks n))
   where
-    left : Plan
-    left =
-        record {
-          release = K.release;
-          adds = K.adds;
-          blocks = filter (λ (b : PlanBlock). not (eqb b.name n)) K.blocks;
-          splits = filter (λ (s : Place). not (of_node n s)) K.splits;
-          wires = without (of_node n) K.wires;
-        }
-
-    go : (b : Bool) → PlanWf (cond {A = Sketched (Result (Unit {0}) Reason)} b (leaves K (Err UnknownBlock)) (leaves left (Ok tt))).plan
+    go : (b : Bool) → PlanWf (cond {A = Sketched (Result (Unit {0}) Reason)} b (leaves K (Err UnknownBlock)) (leaves (block_gone K n) (Ok tt))).plan
     go true = wf
     go false =
         let a = filter_shorter (λ (b : PlanBlock). not (eqb b.name n)) K.blocks in
@@ -157,22 +154,23 @@ module _ (n i o : ℕ) where
       go x true p k = let e = eqb-true x.name n p in omega arith
       go x false p k = k
 
+-- a plan with other counts of a block
+abbrev pub block_resized : Plan → ℕ → ℕ → ℕ → Plan
+block_resized K n i o =
+    record {
+      release = K.release;
+      adds = K.adds;
+      blocks = map (recount n i o) K.blocks;
+      splits = filter (λ (s : Place). not (of_dropped n i o s)) K.splits;
+      wires = without (of_dropped n i o) K.wires;
+    }
+
 pub resize_wf : (K : Plan) (n i o : ℕ) → PlanWf K → PlanWf (set_counts K n i o).plan
 unfolding set_counts
 resize_wf K n i o wf = go (not (leb (i + o) node_ports)) (has_block K.blocks n) refl (ltb port_slots (ports_in_all (map (recount n i o) K.blocks))) refl
   where
-    resized : Plan
-    resized =
-        record {
-          release = K.release;
-          adds = K.adds;
-          blocks = map (recount n i o) K.blocks;
-          splits = filter (λ (s : Place). not (of_dropped n i o s)) K.splits;
-          wires = without (of_dropped n i o) K.wires;
-        }
-
     go : (a b : Bool) → has_block K.blocks n ≡ b → (c : Bool) → ltb port_slots (ports_in_all (map (recount n i o) K.blocks)) ≡ c →
-        PlanWf (cond {A = Sketched (Result (Unit {0}) Reason)} a (leaves K (Err TooManyPorts)) (cond (not b) (leaves K (Err UnknownBlock)) (cond c (leaves K (Err NoRoom)) (leaves resized (Ok tt))))).plan
+        PlanWf (cond {A = Sketched (Result (Unit {0}) Reason)} a (leaves K (Err TooManyPorts)) (cond (not b) (leaves K (Err UnknownBlock)) (cond c (leaves K (Err NoRoom)) (leaves (block_resized K n i o) (Ok tt))))).plan
     go true b p c q = wf
     go false false p c q = wf
     go false true p true q = wf

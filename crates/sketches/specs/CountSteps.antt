@@ -7,20 +7,16 @@ use Rattle.port_tables.specs.Lists.{filter}
 use Rattle.port_tables.specs.declared.direction.Direction.TheVariants.{Outgoing}
 use Rattle.port_tables.specs.Places.{Wire, touches, at_spot}
 use Rattle.port_tables.specs.Listing.{length_map}
-use Rattle.sketches.specs.Plan.{Plan, has_block, spot_named, is_there}
-use Rattle.sketches.specs.PlanLists.{block_count, port_count, wire_count, port_fan_out, block_fan_out}
+use Rattle.sketches.specs.Plan.{has_block, spot_named, is_there}
+use Rattle.sketches.specs.PlanLists.{port_fan_out, block_fan_out}
 use Rattle.sketches.specs.Rows.{rows_in, wire_of, hits}
 use Rattle.sketches.specs.RowReads.{filter_map}
 use Rattle.sketches.specs.SketchTables.{Totals, plan_in}
 use Rattle.sketches.specs.declared.rows.Row.{Row}
-use Rattle.sketches.specs.declared.counts.SketchCounts.{SketchCounts}
 use Rattle.sketches.specs.declared.tests.EndTest.TheVariants as ask
 use Rattle.sketches.specs.declared.tests.Test.TheVariants as test
 use Rattle.sketches.specs.declared.sketch.SketchPort.{SketchPort}
 use Rattle.sketches.specs.declared.sketch.Reason.TheVariants.{UnknownBlock, UnknownPort}
-
-abbrev pub counts_of : Plan → SketchCounts
-counts_of K = record { blocks = block_count K; ports = port_count K; wires = wire_count K }
 
 -- rows that are hit are as many as the wires of which the test holds
 same_number : (g : Wire → Bool) (l : List Row) → length (filter (λ r. g (wire_of r)) l) ≡ length (filter g (map wire_of l))

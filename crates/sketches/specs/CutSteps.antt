@@ -15,8 +15,7 @@ use Rattle.sketches.specs.CallsWf.{cut_wf, above_within, tidied_within}
 use Rattle.sketches.specs.Rows.{Table, rows_in, splits_in, wires_in, wire_of, place_in, end_hits, hits, missed, first}
 use Rattle.sketches.specs.RowReads.{wires_left}
 use Rattle.sketches.specs.BlockSteps.{leaves_as, tables_wf}
-use Rattle.sketches.specs.SplitSteps.{splits_with, SplitsRoom, IsPlan, room_for, subports_set}
-use Rattle.sketches.specs.EndSteps.{judge_by, judge_end}
+use Rattle.sketches.specs.SplitSteps.{room_for, subports_set}
 use Rattle.sketches.specs.SketchTables.{Totals, plan_in, totals_counts, held_splits, held_wires, SketchWf, Leaves}
 use Rattle.sketches.specs.declared.rows.Row.{Row}
 use Rattle.sketches.specs.declared.tests.EndTest.{EndTest}
@@ -27,20 +26,12 @@ use Rattle.sketches.specs.declared.sketch.SketchEnd.{SketchEnd}
 use Rattle.sketches.specs.declared.sketch.Reason.{Reason}
 use Rattle.sketches.specs.declared.sketch.Reason.TheVariants.{BadOffset, UnknownPort, UnknownOffset}
 use Rattle.sketches.specs.declared.tests.RowEnd.{RowEnd}
-
--- an answer, by its definition
-pub record Answers {A : Type 0} (numbers : A → List ℕ) (called answer : A) : Type 0 where
-  pub answered : answer ≡ called
-  pub numbered : numbers answer ≡ numbers called
+use Rattle.sketches.specs.CallParts.{splits_with, SplitsRoom, IsPlan, judge_one, judge_end, Answers, far_of}
 
 pub answers_as : {A : Type 0} {numbers : A → List ℕ} {called answer : A} → answer ≡ called → Answers numbers called answer
 answers_as {A} {numbers} e = record { answered = e; numbered = ap numbers e }
 
 -- The far end.
-
-abbrev pub far_of : Option RowEnd → Far
-far_of None = nothing
-far_of (Some x) = far (place_in x)
 
 module _ (f : EndTest) where
   far_none : (l : List Row) → filter (hits (test.Wire f)) l ≡ [] → far_from (end_hits f) (map wire_of l) ≡ nothing
@@ -137,7 +128,7 @@ found_as_judged K x o = go (bad_offset o) (is_there K x) (lacks_offset K x o)
   where
     go : (a b c : Bool) →
         cond a (Err BadOffset) (cond (not b) (Err UnknownPort) (cond c (Err UnknownOffset) (end_found (far_from (at_end (spot_named x) (offset_read K x o)) K.wires))))
-        ≡ found_as (far_from (at_end (spot_named x) (offset_read K x o)) K.wires) (judge_by a b c)
+        ≡ found_as (far_from (at_end (spot_named x) (offset_read K x o)) K.wires) (judge_one a b c)
     go true b c = refl
     go false false c = refl
     go false true true = refl

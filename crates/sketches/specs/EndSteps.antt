@@ -17,31 +17,7 @@ use Rattle.sketches.specs.declared.sketch.SketchPort.{SketchPort}
 use Rattle.sketches.specs.declared.sketch.Reason.{Reason}
 use Rattle.sketches.specs.declared.sketch.Reason.TheVariants.{BadOffset, UnknownPort, UnknownOffset, NoRoom, UnknownSecondPort, SameSide, AlreadyLinked, InputWired}
 use Rattle.sketches.specs.declared.sketch.SketchEnd.{SketchEnd}
-
--- 2, 7, 9
-abbrev pub judge_by : Bool → Bool → Bool → Result (Unit {0}) Reason
-judge_by bad there lacks = cond bad (Err BadOffset) (cond (not there) (Err UnknownPort) (cond lacks (Err UnknownOffset) (Ok tt)))
-
-unfoldable pub judge_end : Plan → SketchPort → ℕ → Result (Unit {0}) Reason
-judge_end K x o = judge_by (bad_offset o) (is_there K x) (lacks_offset K x o)
-
--- 2, 7, 9, 18, 11, 12, 13, 10
-abbrev pub judge_all : Bool → Bool → Bool → Bool → Bool → Bool → Bool → Bool → Result (Unit {0}) Reason
-judge_all bad there lacks taken second sides wired full =
-    cond bad (Err BadOffset)
-    (cond (not there) (Err UnknownPort)
-    (cond lacks (Err UnknownOffset)
-    (cond taken (Err InputWired)
-    (cond (not second) (Err UnknownSecondPort)
-    (cond sides (Err SameSide)
-    (cond wired (Err AlreadyLinked)
-    (cond full (Err NoRoom)
-    (Ok tt))))))))
-
-unfoldable pub judge_ends : Plan → SketchPort → ℕ → SketchPort → ℕ → Result (Unit {0}) Reason
-judge_ends K x o y r =
-    judge_all (bad_offset o || bad_offset r) (is_there K x) (lacks_offset K x o || cond (is_there K y) (lacks_offset K y r) false) (input_taken K x y) (is_there K y) (same_side x.side y.side)
-    (is_wired K x o || is_wired K y r) (is_full K)
+use Rattle.sketches.specs.CallParts.{judge_second, judge_end, judge_all, judge_ends}
 
 pub read_unsplit : (K : Plan) (x : SketchPort) (o : ℕ) {c : ℕ} → c ≡ subports_of K x → c ≡ 0 → 0 ≡ offset_read K x o
 read_unsplit K x o e z = rw (eq-eqb (subports_of K x) 0 (sym e ∙ z))
@@ -70,29 +46,39 @@ module _ (K : Plan) (x : SketchPort) (o : ℕ) (y : SketchPort) (r : ℕ) where
   unfolding judge_ends
   ends_lack a b c = rw (a, b, c)
 
-  pub ends_taken : (bad_offset o || bad_offset r) ≡ false → is_there K x ≡ true → (lacks_offset K x o || cond (is_there K y) (lacks_offset K y r) false) ≡ false → input_taken K x y ≡ true → Err InputWired ≡ judge_ends K x o y r
+  pub ends_second : (bad_offset o || bad_offset r) ≡ false → is_there K x ≡ true → (lacks_offset K x o || cond (is_there K y) (lacks_offset K y r) false) ≡ false → {q : Reason} → judge_second K x y ≡ Err q → Err q ≡ judge_ends K x o y r
   unfolding judge_ends
-  ends_taken a b c d = rw (a, b, c, d)
+  ends_second a b c {q} e = rw (a, b, c) (go (input_taken K x y) (is_there K y) (same_side x.side y.side) e)
+    where
+      go : (d e f : Bool) → cond {A = Result (Unit {0}) Reason} d (Err InputWired) (cond (not e) (Err UnknownSecondPort) (cond f (Err SameSide) (Ok tt))) ≡ Err q →
+          Err q ≡ cond {A = Result (Unit {0}) Reason} d (Err InputWired) (cond (not e) (Err UnknownSecondPort) (cond f (Err SameSide) (cond (is_wired K x o || is_wired K y r) (Err AlreadyLinked) (cond (is_full K) (Err NoRoom) (Ok tt)))))
+      go true e f h = sym h
+      go false false f h = sym h
+      go false true true h = sym h
+      go false true false h = absurd (let z : ◌≡◌ {A = ℕ} 0 1 = cc in omega arith)
 
-  pub ends_second : (bad_offset o || bad_offset r) ≡ false → is_there K x ≡ true → (lacks_offset K x o || cond (is_there K y) (lacks_offset K y r) false) ≡ false → input_taken K x y ≡ false → is_there K y ≡ false → Err UnknownSecondPort ≡ judge_ends K x o y r
+  -- what is left is judged where the second port is fine
+  ends_rest : (bad_offset o || bad_offset r) ≡ false → is_there K x ≡ true → (lacks_offset K x o || cond (is_there K y) (lacks_offset K y r) false) ≡ false → judge_second K x y ≡ Ok tt →
+      judge_ends K x o y r ≡ cond {A = Result (Unit {0}) Reason} (is_wired K x o || is_wired K y r) (Err AlreadyLinked) (cond (is_full K) (Err NoRoom) (Ok tt))
   unfolding judge_ends
-  ends_second a b c d e = rw (a, b, c, d, e)
+  ends_rest a b c e = rw (a, b, c) (go (input_taken K x y) (is_there K y) (same_side x.side y.side) e)
+    where
+      go : (d e f : Bool) → cond {A = Result (Unit {0}) Reason} d (Err InputWired) (cond (not e) (Err UnknownSecondPort) (cond f (Err SameSide) (Ok tt))) ≡ Ok tt →
+          cond {A = Result (Unit {0}) Reason} d (Err InputWired) (cond (not e) (Err UnknownSecondPort) (cond f (Err SameSide) (cond (is_wired K x o || is_wired K y r) (Err AlreadyLinked) (cond (is_full K) (Err NoRoom) (Ok tt)))))
+          ≡ cond {A = Result (Unit {0}) Reason} (is_wired K x o || is_wired K y r) (Err AlreadyLinked) (cond (is_full K) (Err NoRoom) (Ok tt))
+      go false true false h = refl
+      go true e f h = absurd (let z : ◌≡◌ {A = ℕ} 0 1 = cc in omega arith)
+      go false false f h = absurd (let z : ◌≡◌ {A = ℕ} 0 1 = cc in omega arith)
+      go false true true h = absurd (let z : ◌≡◌ {A = ℕ} 0 1 = cc in omega arith)
 
-  pub ends_same_side : (bad_offset o || bad_offset r) ≡ false → is_there K x ≡ true → (lacks_offset K x o || cond (is_there K y) (lacks_offset K y r) false) ≡ false → input_taken K x y ≡ false → is_there K y ≡ true → same_side x.side y.side ≡ true → Err SameSide ≡ judge_ends K x o y r
-  unfolding judge_ends
-  ends_same_side a b c d e f = rw (a, b, c, d, e, f)
+  pub ends_wired : (bad_offset o || bad_offset r) ≡ false → is_there K x ≡ true → (lacks_offset K x o || cond (is_there K y) (lacks_offset K y r) false) ≡ false → judge_second K x y ≡ Ok tt → (is_wired K x o || is_wired K y r) ≡ true → Err AlreadyLinked ≡ judge_ends K x o y r
+  ends_wired a b c d g = sym (ends_rest a b c d ∙ rw g refl)
 
-  pub ends_wired : (bad_offset o || bad_offset r) ≡ false → is_there K x ≡ true → (lacks_offset K x o || cond (is_there K y) (lacks_offset K y r) false) ≡ false → input_taken K x y ≡ false → is_there K y ≡ true → same_side x.side y.side ≡ false → (is_wired K x o || is_wired K y r) ≡ true → Err AlreadyLinked ≡ judge_ends K x o y r
-  unfolding judge_ends
-  ends_wired a b c d e f g = rw (a, b, c, d, e, f, g)
+  pub ends_full : (bad_offset o || bad_offset r) ≡ false → is_there K x ≡ true → (lacks_offset K x o || cond (is_there K y) (lacks_offset K y r) false) ≡ false → judge_second K x y ≡ Ok tt → (is_wired K x o || is_wired K y r) ≡ false → is_full K ≡ true → Err NoRoom ≡ judge_ends K x o y r
+  ends_full a b c d g h = sym (ends_rest a b c d ∙ rw (g, h) refl)
 
-  pub ends_full : (bad_offset o || bad_offset r) ≡ false → is_there K x ≡ true → (lacks_offset K x o || cond (is_there K y) (lacks_offset K y r) false) ≡ false → input_taken K x y ≡ false → is_there K y ≡ true → same_side x.side y.side ≡ false → (is_wired K x o || is_wired K y r) ≡ false → is_full K ≡ true → Err NoRoom ≡ judge_ends K x o y r
-  unfolding judge_ends
-  ends_full a b c d e f g h = rw (a, b, c, d, e, f, g, h)
-
-  pub ends_fine : (bad_offset o || bad_offset r) ≡ false → is_there K x ≡ true → (lacks_offset K x o || cond (is_there K y) (lacks_offset K y r) false) ≡ false → input_taken K x y ≡ false → is_there K y ≡ true → same_side x.side y.side ≡ false → (is_wired K x o || is_wired K y r) ≡ false → is_full K ≡ false → Ok tt ≡ judge_ends K x o y r
-  unfolding judge_ends
-  ends_fine a b c d e f g h = rw (a, b, c, d, e, f, g, h)
+  pub ends_fine : (bad_offset o || bad_offset r) ≡ false → is_there K x ≡ true → (lacks_offset K x o || cond (is_there K y) (lacks_offset K y r) false) ≡ false → judge_second K x y ≡ Ok tt → (is_wired K x o || is_wired K y r) ≡ false → is_full K ≡ false → Ok tt ≡ judge_ends K x o y r
+  ends_fine a b c d g h = sym (ends_rest a b c d ∙ rw (g, h) refl)
 
   pub end_bad : bad_offset o ≡ true → Err BadOffset ≡ judge_end K x o
   unfolding judge_end

@@ -9,11 +9,12 @@
 --   Held          a sketch as contracts see it
 --   Rows          the rows of a table, and the tests on them
 --   Tables        a table as contracts see it
+--   CallParts     what the functions under the calls answer and leave
 --   SketchWalks   what a step of each walk gives
 --   WalkLaws, SubportLaws   a walk gives each item of its list once, and ends
 --   PlanWf, CallsWf         what holds of a plan after every call: no more split ports than ports, offsets that fit 16 bits
 -- The rest are the steps of the code: Searches, RowSteps, RowReads and Offsets for one table, BlockSteps, SplitSteps, LinkSteps, EndSteps, CutSteps, CountSteps
--- and SheetSteps for the calls.
+-- and SheetSteps for the calls, and WalkSteps for the walks.
 pub mod Plan
 pub mod PlanNumbers
 pub mod PlanCalls
@@ -27,6 +28,7 @@ pub mod PlanWf
 pub mod Tables
 pub mod SketchTables
 pub mod Held
+pub mod CallParts
 pub mod CallsWf
 pub mod BlockSteps
 pub mod SplitSteps
@@ -35,6 +37,7 @@ pub mod EndSteps
 pub mod CutSteps
 pub mod CountSteps
 pub mod SketchWalks
+pub mod WalkSteps
 pub mod SheetSteps
 pub mod WalkLaws
 pub mod SubportLaws

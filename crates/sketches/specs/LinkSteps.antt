@@ -13,13 +13,13 @@ use Rattle.sketches.specs.CallsWf.{ready_wires, ready_there, linked_wf}
 use Rattle.sketches.specs.Rows.{rows_in, row_slots, Table, wires_in, wire_of}
 use Rattle.sketches.specs.Offsets.{length_wires}
 use Rattle.sketches.specs.BlockSteps.{leaves_as, tables_wf}
-use Rattle.sketches.specs.SplitSteps.{IsPlan}
 use Rattle.sketches.specs.SketchTables.{Totals, plan_in, held_wires, SketchWf, Leaves}
 use Rattle.sketches.specs.declared.rows.Row.{Row}
 use Rattle.sketches.specs.declared.sketch.SketchPort.{SketchPort}
 use Rattle.sketches.specs.declared.sketch.Reason.{Reason}
 use Rattle.sketches.specs.declared.sketch.Reason.TheVariants.{UnknownPort, NoRoom, UnknownSecondPort, SameSide, InputWired}
 use Rattle.sketches.specs.declared.sketch.SketchEnd.{SketchEnd}
+use Rattle.sketches.specs.CallParts.{IsPlan, Linkable, judge_by, judge_ports}
 
 -- Inputs with a wire.
 
@@ -50,13 +50,6 @@ pub both_there : (b s w : List Row) (h : Totals) (x y : SketchPort) {b₁ s₁ w
 both_there b s w h x y p e = (p.wf, ap (λ (k : Plan). is_there k y) p.plan ∙ ready_there (plan_in b s w h) x y ∙ e)
 
 -- Both ports are linked.
-
-pub record Linkable (b s w : List Row) (h : Totals) (x y : SketchPort) : Type 0 where
-  pub wf : SketchWf b s w h
-  pub first : is_there (plan_in b s w h) x ≡ true
-  pub second : is_there (plan_in b s w h) y ≡ true
-  pub sides : same_side x.side y.side ≡ false
-  pub room : h.wires < row_slots
 
 module _ (b s w : List Row) (h : Totals) (x y : SketchPort) (l : Linkable b s w h x y) where
   module _ {b₁ s₁ w₁ : List Row} {h₁ : Totals} (p : IsPlan (ready (plan_in b s w h) x) b₁ s₁ w₁ h₁) where
@@ -94,19 +87,6 @@ module _ (b s w : List Row) (h : Totals) (x y : SketchPort) (l : Linkable b s w 
   ends_apart f g = rw (f, g) l.sides
 
 -- The calls, as they are judged.
-
--- 7, 18, 11, 12, 10
-abbrev pub judge_by : Bool → Bool → Bool → Bool → Bool → Result (Unit {0}) Reason
-judge_by there taken second sides full =
-    cond (not there) (Err UnknownPort)
-    (cond taken (Err InputWired)
-    (cond (not second) (Err UnknownSecondPort)
-    (cond sides (Err SameSide)
-    (cond full (Err NoRoom)
-    (Ok tt)))))
-
-unfoldable pub judge_ports : Plan → SketchPort → SketchPort → Result (Unit {0}) Reason
-judge_ports K x y = judge_by (is_there K x) (input_taken K x y) (is_there K y) (same_side x.side y.side) (is_full K)
 
 abbrev pub link_as : Plan → SketchPort → SketchPort → Result (Unit {0}) Reason → Sketched (Result (SketchEnd × SketchEnd) Reason)
 link_as K x y (Ok u) = both_linked K x y

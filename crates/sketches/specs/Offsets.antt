@@ -15,19 +15,7 @@ use Rattle.port_tables.specs.Places.{Place, Wire, Spot, at_spot, at_end, any_tou
 use Rattle.sketches.specs.Plan.{above_end, above_wired}
 use Rattle.sketches.specs.Rows.{row_slots, rows_in, row_at, wire_of, wires_in}
 use Rattle.sketches.specs.declared.rows.Row.{Row}
-
--- an offset is marked; one beyond the table is left out
-abbrev pub mark : List Bool → ℕ → List Bool
-mark m o = cond (ltb o row_slots) (set m o true) m
-
--- the offset of an end, marked if it is at a spot
-abbrev pub marked : Spot → Place → List Bool → List Bool
-marked s x m = cond (at_spot s x) (mark m x.offset) m
-
--- the marks are the wired offsets
-pub record Marks (s : Spot) (l : List Wire) (m : List Bool) : Type 0 where
-  pub long : length m ≡ row_slots
-  pub right : (o : ℕ) → o < row_slots → get_or m o false ≡ any_touches (at_end s o) l
+use Rattle.sketches.specs.CallParts.{mark, marked, Marks}
 
 pub no_marks : (s : Spot) → Marks s [] (replicate row_slots false)
 unfolding any_touches

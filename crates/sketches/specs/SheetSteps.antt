@@ -3,33 +3,13 @@ use Rattle.std.specs.Prelude.{◌≡◌, refl, List, [], ◌++◌, ℕ, ◌+◌,
 use Rattle.std.proofs.Common.{sym, ap, ◌∙◌, append-nil, arith, take_all, lt-ltb, le-ltb}
 use Rattle.std.proofs.Math.ListN.{drop_of_length-le}
 use Rattle.std.proofs.lemmas.List.{drop-drop}
-use Rattle.port_tables.specs.declared.direction.Direction.TheVariants.{Incoming}
-use Rattle.sketches.specs.Plan.{Plan, end#}
+use Rattle.sketches.specs.Plan.{Plan}
 use Rattle.sketches.specs.PlanCalls.{Sketched, leaves, sheet_entries, sheet_plan, sheet_answered, sheet}
 use Rattle.sketches.specs.PlanNumbers.{sheet_numbers}
 use Rattle.sketches.specs.Held.{Held, plan_of}
 use Rattle.sketches.specs.declared.sketch.TooManyEntries.{TooManyEntries}
-use Rattle.sketches.specs.declared.sketch.SketchPort.{SketchPort}
 use Rattle.sketches.specs.declared.sketch.SheetEntry.{SheetEntry}
-use Rattle.sketches.specs.declared.sketch.Reason.TheVariants.{NoRoom}
-
-abbrev no_port : SketchPort
-no_port = record { block = 0; side = Incoming; position = 0 }
-
-abbrev pub no_entry : SheetEntry
-no_entry = record { from = no_port; to = no_port; answer = Err NoRoom }
-
--- what is read past the last place
-abbrev pub past_entry : SheetEntry
-past_entry = record { from = no_port; to = no_port; answer = Ok (end# no_port 0, end# no_port 0) }
-
--- what a sheet leaves: the plan, the answer, and in each entry its own answer; a sheet that is too long keeps its entries
-pub record SheetLeaves (K : Plan) (entries : List SheetEntry) (k : Held) (after : List SheetEntry) (answer : Result (Unit {0}) TooManyEntries) : Type 0 where
-  pub plan : plan_of k ≡ (sheet K entries).plan
-  pub answered : answer ≡ (sheet K entries).answer
-  pub numbered : sheet_numbers answer ≡ sheet_numbers (sheet K entries).answer
-  pub answers : length entries ≤ sheet_entries → after ≡ sheet_answered K entries
-  pub untouched : sheet_entries < length entries → after ≡ entries
+use Rattle.sketches.specs.CallParts.{SheetLeaves}
 
 sheet_long : (K : Plan) (l : List SheetEntry) → sheet_entries < length l → sheet K l ≡ leaves K (Err (record {}))
 unfolding sheet

@@ -22,13 +22,10 @@ use Rattle.sketches.specs.declared.rows.Row.{Row}
 use Rattle.sketches.specs.declared.sketch.SketchPort.{SketchPort}
 use Rattle.sketches.specs.declared.tests.EndTest.TheVariants as ask
 use Rattle.sketches.specs.declared.tests.Test.TheVariants as test
+use Rattle.sketches.specs.CallParts.{splits_with, SplitsRoom, split_row, IsPlan}
 
 pub length_splits : (t : List Row) (n : ℕ) → length (splits_in t n) ≡ n
 length_splits t n = length_map split_of (rows_in t n) ∙ length_rows t n
-
--- the split ports with another number of subports at one of them, where it is another
-abbrev pub splits_with : List Place → SketchPort → ℕ → List Place
-splits_with l p c = cond (eqb (subports_among l (spot_named p)) c) l (splits_set l p c)
 
 pub set_is_with : (K : Plan) (p : SketchPort) (c : ℕ) → set_subports K p c ≡ with_splits K (splits_with K.splits p c)
 set_is_with K p c = go (eqb (subports_of K p) c)
@@ -36,13 +33,6 @@ set_is_with K p c = go (eqb (subports_of K p) c)
     go : (b : Bool) → cond b K (with_splits K (splits_set K.splits p c)) ≡ with_splits K (cond b K.splits (splits_set K.splits p c))
     go true = refl
     go false = refl
-
--- there is room for the change
-abbrev pub SplitsRoom : List Row → ℕ → SketchPort → ℕ → Type 0
-SplitsRoom t n p c = length (splits_with (splits_in t n) p c) ≤ row_slots
-
-abbrev pub split_row : SketchPort → ℕ → Row
-split_row p c = record { 0 = p.block; 1 = side_number p.side; 2 = p.position; 3 = c; 4 = 0; 5 = 0 }
 
 split_row_is : (p : SketchPort) (c : ℕ) → split_of (split_row p c) ≡ record { node = p.block; side = p.side; pos = p.position; offset = c }
 split_row_is p c = ap (λ (d : Direction). record { node = p.block; side = d; pos = p.position; offset = c }) (own p.side)
@@ -77,11 +67,6 @@ module _ (t : List Row) (n : ℕ) (p : SketchPort) (c : ℕ) where
         ∙ ap (λ (y : Place). y ∷ splits_in t' kept) (split_row_is p c) ∙ sym (more z)
 
 -- Making ready.
-
--- a plan, in these tables
-pub record IsPlan (K : Plan) (b s w : List Row) (h : Totals) : Type 0 where
-  pub plan : plan_in b s w h ≡ K
-  pub wf : SketchWf b s w h
 
 -- a plan that is proved on the fields of a sketch, and in them
 pub plan_seen_as : (f : Plan → Plan) {i k : Held} {b s w : List Row} {h : Totals} → i ≡ k → IsPlan (f (plan_of i)) b s w h → IsPlan (f (plan_of k)) b s w h

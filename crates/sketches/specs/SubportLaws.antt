@@ -1,4 +1,5 @@
 -- What is left of a walk over the subports of a side: from its start the whole list, and each step takes the first of what is left.
+use Rattle.std.proofs.lemmas.Option.{some_pair_parts}
 use Rattle.std.proofs.Math.Path.{◌≡◌, refl, ap}
 use Rattle.std.proofs.Common.{sym, ◌∙◌, arith}
 use Rattle.std.specs.Prelude.{Bool, cond, eqb, Option, Some, None}
@@ -11,7 +12,7 @@ use Rattle.port_tables.specs.Lists.{range}
 use Rattle.port_tables.specs.declared.direction.Direction.{Direction}
 use Rattle.sketches.specs.Plan.{Plan, ports_on_side, subports_of, end#}
 use Rattle.sketches.specs.PlanLists.{offsets_of, port_on, subports_of_side}
-use Rattle.sketches.specs.SketchWalks.{item_of, rest_of, offset_count, next_subport}
+use Rattle.sketches.specs.SketchWalks.{offset_count, next_subport}
 use Rattle.sketches.specs.declared.walks.SubportWalk.{SubportWalk}
 use Rattle.sketches.specs.declared.sketch.SketchPort.{SketchPort}
 use Rattle.sketches.specs.declared.sketch.SketchEnd.{SketchEnd}
@@ -103,8 +104,8 @@ module _ (K : Plan) (w : SubportWalk) where
           step a b c ≡ Some (x, v) → subports_left K w ≡ x ∷ subports_left K v
       go true p b q c r e = absurd (let z : ◌≡◌ {A = ℕ} 0 1 = cc in omega arith)
       go false p true q c r e =
-          let i : end# w.port w.offset ≡ x = item_of e in
-          let j : record { port = w.port; offset = suc w.offset } ≡ v = rest_of e in
+          let i : end# w.port w.offset ≡ x = (some_pair_parts _ _ _ _ e).0 in
+          let j : record { port = w.port; offset = suc w.offset } ≡ v = (some_pair_parts _ _ _ _ e).1 in
           let h = ltb-true w.offset (offset_count (subports_of K w.port)) q in
           (rw p (ap (λ (l : List SketchEnd). l ++ ends_beyond K w.port.block w.port.side (suc w.port.position)) (ends_first K w.port w.offset h)))
           ∙ here w.port (suc w.offset) p
@@ -116,8 +117,8 @@ module _ (K : Plan) (w : SubportWalk) where
       go false p false q true r e = absurd (let z : ◌≡◌ {A = ℕ} 0 1 = cc in omega arith)
       go false p false q false r e =
           let y = port_on w.port.block w.port.side (suc w.port.position) in
-          let i : end# y 0 ≡ x = item_of e in
-          let j : record { port = y; offset = 1 } ≡ v = rest_of e in
+          let i : end# y 0 ≡ x = (some_pair_parts _ _ _ _ e).0 in
+          let j : record { port = y; offset = 1 } ≡ v = (some_pair_parts _ _ _ _ e).1 in
           let h = ltb-false w.offset (offset_count (subports_of K w.port)) q in
           let k = leb-false (ports_of_walk K w) (suc w.port.position) r in
           (rw (p, ends_none K w.port w.offset h) refl)

@@ -1,5 +1,7 @@
 -- What is left of a walk: from its start that is the whole list, each step takes one item from the front or from the back, and where a step gives the end
 -- nothing is left. So a walk gives each item once, from either end, and ends.
+use Rattle.std.proofs.lemmas.List.{map-append}
+use Rattle.std.proofs.lemmas.Option.{some_pair_parts}
 use Rattle.std.proofs.Math.Path.{◌≡◌, refl, ap}
 use Rattle.std.proofs.Common.{sym, ◌∙◌}
 use Rattle.std.specs.Prelude.{Bool, not, eqb, Some, None}
@@ -18,14 +20,15 @@ use Rattle.sketches.specs.PlanLists.{links_of_port, links_of_side, is_own_output
 use Rattle.sketches.specs.Rows.{row_at, rows_in, block_of, wire_of, hits, newest_hit, oldest_hit}
 use Rattle.sketches.specs.RowReads.{filter_map}
 use Rattle.sketches.specs.SketchTables.{Totals, plan_in}
-use Rattle.sketches.specs.SketchWalks.{item_of, rest_of, whole_walk, wire_held, wire_below, wire_above, block_below, next_wire, previous_wire, next_block, newest_high}
+use Rattle.sketches.specs.SketchWalks.{whole_walk, wire_held, wire_below, wire_above, block_below, next_wire, previous_wire, next_block}
 use Rattle.sketches.specs.declared.rows.Row.{Row}
 use Rattle.sketches.specs.declared.tests.EndTest.TheVariants as ask
 use Rattle.sketches.specs.declared.tests.Test.{Test}
 use Rattle.sketches.specs.declared.tests.Test.TheVariants as test
-use Rattle.sketches.specs.declared.walks.Walk.{Walk}
+use Rattle.sketches.specs.declared.tests.Walk.{Walk}
 use Rattle.sketches.specs.declared.walks.SketchWire.{SketchWire}
 use Rattle.sketches.specs.declared.sketch.SketchPort.{SketchPort}
+use Rattle.sketches.specs.WalkSteps.{newest_high}
 
 -- the rows from low up to high, newest first
 unfoldable pub rows_between : List Row → ℕ → ℕ → List Row
@@ -124,10 +127,6 @@ unfolding oldest_hit
 none_there f t i zero k z e = omega arith
 none_there f t i (suc n) k z e = omega arith
 
-map_append : {A B : Type 0} (g : A → B) (a b : List A) → map g (a ++ b) ≡ map g a ++ map g b
-map_append g [] b = refl
-map_append {A} {B} g (x ∷ a) b = ap (λ (l : List B). g x ∷ l) (map_append g a b)
-
 -- the wires that are left, as they are given
 abbrev pub wires_left : List Row → ℕ → Walk → List SketchWire
 wires_left t n w = map (λ r. wire_held (wire_of r)) (rows_left t n w)
@@ -141,8 +140,8 @@ module _ (t : List Row) (n : ℕ) (w : Walk) where
       go : (k : ℕ) → newest_hit (hits w.test) t w.low (min w.high n) ≡ k → wire_below t w k ≡ Some (x, v) → wires_left t n w ≡ x ∷ wires_left t n v
       go zero p q = absurd (let z : ◌≡◌ {A = ℕ} 0 1 = cc in omega arith)
       go (suc k) p q =
-          let a : wire_held (wire_of (row_at t k)) ≡ x = item_of q in
-          let c : record { low = w.low; high = k; test = w.test } ≡ v = rest_of q in
+          let a : wire_held (wire_of (row_at t k)) ≡ x = (some_pair_parts _ _ _ _ q).0 in
+          let c : record { low = w.low; high = k; test = w.test } ≡ v = (some_pair_parts _ _ _ _ q).1 in
           let h = newest_high (hits w.test) t w.low (min w.high n) in
           let m : min k n ≡ k = omega arith in
           ap (map (λ r. wire_held (wire_of r))) (newest_first (hits w.test) t w.low (min w.high n) k p)
@@ -166,11 +165,11 @@ module _ (t : List Row) (n : ℕ) (w : Walk) where
       go : (k : ℕ) → oldest_hit (hits w.test) t w.low (min w.high n - w.low) ≡ k → wire_above t w k ≡ Some (x, v) → (b : Bool) → leb w.low (min w.high n) ≡ b → wires_left t n w ≡ wires_left t n v ++ (x ∷ [])
       go zero p q b l = absurd (let z : ◌≡◌ {A = ℕ} 0 1 = cc in omega arith)
       go (suc k) p q true l =
-          let a : wire_held (wire_of (row_at t k)) ≡ x = item_of q in
-          let c : record { low = suc k; high = w.high; test = w.test } ≡ v = rest_of q in
+          let a : wire_held (wire_of (row_at t k)) ≡ x = (some_pair_parts _ _ _ _ q).0 in
+          let c : record { low = suc k; high = w.high; test = w.test } ≡ v = (some_pair_parts _ _ _ _ q).1 in
           let h = leb-true w.low (min w.high n) l in
           ap (map (λ r. wire_held (wire_of r))) (oldest_last_some (hits w.test) t (min w.high n) w.low (min w.high n - w.low) k (omega arith) p)
-          ∙ map_append (λ r. wire_held (wire_of r)) (filter (hits w.test) (rows_between t (suc k) (min w.high n))) (row_at t k ∷ [])
+          ∙ map-append (λ r. wire_held (wire_of r)) (filter (hits w.test) (rows_between t (suc k) (min w.high n))) (row_at t k ∷ [])
           ∙ ap (λ (y : SketchWire). map (λ r. wire_held (wire_of r)) (filter (hits w.test) (rows_between t (suc k) (min w.high n))) ++ (y ∷ [])) a
           ∙ ap (λ (u : Walk). wires_left t n u ++ (x ∷ [])) c
       go (suc k) p q false l =
@@ -248,8 +247,8 @@ module _ (t : List Row) (n : ℕ) (w : Walk) where
       go : (k : ℕ) → newest_hit (hits w.test) t w.low (min w.high (min n 3072)) ≡ k → block_below t w k ≡ Some (x, v) → names_left t n w ≡ x ∷ names_left t n v
       go zero p q = absurd (let z : ◌≡◌ {A = ℕ} 0 1 = cc in omega arith)
       go (suc k) p q =
-          let a : (row_at t k).0 ≡ x = item_of q in
-          let c : record { low = w.low; high = k; test = w.test } ≡ v = rest_of q in
+          let a : (row_at t k).0 ≡ x = (some_pair_parts _ _ _ _ q).0 in
+          let c : record { low = w.low; high = k; test = w.test } ≡ v = (some_pair_parts _ _ _ _ q).1 in
           let h = newest_high (hits w.test) t w.low (min w.high (min n 3072)) in
           let m : min k (min n 3072) ≡ k = omega arith in
           ap (map (λ r. r.0)) (newest_first (hits w.test) t w.low (min w.high (min n 3072)) k p)

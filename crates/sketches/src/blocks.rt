@@ -4,7 +4,7 @@ ghost use Rattle.port_tables.specs.Limits.{node_ports};
 ghost use Rattle.sketches.specs.PlanCalls.{add_block, remove_block, set_counts};
 ghost use Rattle.sketches.specs.PlanNumbers.{add_numbers, done_numbers};
 ghost use Rattle.sketches.specs.Held.{plan_of, Left};
-ghost use Rattle.sketches.specs.BlockSteps.{no_room};
+ghost use Rattle.sketches.specs.CallParts.{no_room};
 
 use crate::rows::Row;
 use crate::sketch::Reason;
@@ -47,9 +47,7 @@ impl Sketch {
     pub fn remove(&mut self, name: u32) -> Result<(), Reason>
         ensures { Left done_numbers (remove_block (plan_of self.old) name) self.new result }
     {
-        if !self.has_block(name) {
-            return Err(Reason::UnknownBlock);
-        }
+        self.find_block(name)?;
         let end = EndTest::OfBlock(name);
         self.blocks.drop_where(Test::Block(name));
         self.splits.drop_where(Test::Split(end));
@@ -62,13 +60,12 @@ impl Sketch {
     pub fn resize(&mut self, name: u32, incoming: u32, outgoing: u32) -> Result<(), Reason>
         ensures { Left done_numbers (set_counts (plan_of self.old) name incoming outgoing) self.new result }
     {
-        let known = self.has_block(name);
+        // Sought before any answer: it tells that the sketch is well formed, which a refusal keeps.
+        let found = self.find_block(name);
         if NODE_PORTS < wide(incoming) + wide(outgoing) {
             return Err(Reason::TooManyPorts);
         }
-        if !known {
-            return Err(Reason::UnknownBlock);
-        }
+        found?;
         let block = Row(name, incoming, outgoing, 0, 0, 0);
         if PORT_SLOTS < self.blocks.ports_recounted(block) {
             return Err(Reason::NoRoom);

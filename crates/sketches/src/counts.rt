@@ -3,8 +3,7 @@ ghost use Rattle.std.specs.Prelude.{◌≡◌};
 ghost use Rattle.sketches.specs.PlanLists.{port_fan_out, block_fan_out};
 ghost use Rattle.sketches.specs.PlanNumbers.{count_numbers};
 ghost use Rattle.sketches.specs.Held.{plan_of};
-ghost use Rattle.sketches.specs.CutSteps.{Answers};
-ghost use Rattle.sketches.specs.CountSteps.{counts_of};
+ghost use Rattle.sketches.specs.CallParts.{Answers, counts_of};
 
 use crate::sketch::{Reason, SketchPort};
 use crate::tests::{EndTest, Test};
@@ -36,11 +35,8 @@ impl Sketch {
     pub fn fan_out(&self, port: SketchPort) -> Result<usize, Reason>
         ensures { Answers count_numbers (port_fan_out (plan_of self.now) port) result }
     {
-        if !self.is_there(port) {
-            return Err(Reason::UnknownPort);
-        }
-        let test = Test::Wire(EndTest::AtPort(port));
-        Ok(self.wires.count_of(test))
+        self.find_port(port)?;
+        Ok(self.wires.count_of(Test::Wire(EndTest::AtPort(port))))
     }
 
     // The wires that leave a block.
@@ -48,10 +44,7 @@ impl Sketch {
     pub fn block_fan_out(&self, name: u32) -> Result<usize, Reason>
         ensures { Answers count_numbers (block_fan_out (plan_of self.now) name) result }
     {
-        if !self.has_block(name) {
-            return Err(Reason::UnknownBlock);
-        }
-        let test = Test::Side(name, Direction::Outgoing);
-        Ok(self.wires.count_of(test))
+        self.find_block(name)?;
+        Ok(self.wires.count_of(Test::Side(name, Direction::Outgoing)))
     }
 }

@@ -6,7 +6,7 @@ ghost use Rattle.sketches.specs.PlanNumbers.{done_numbers, cut_numbers, found_nu
 ghost use Rattle.sketches.specs.PlanWf.{most_subports};
 ghost use Rattle.sketches.specs.Rows.{end_hits};
 ghost use Rattle.sketches.specs.Held.{plan_of, Left};
-ghost use Rattle.sketches.specs.CutSteps.{far_of, Answers};
+ghost use Rattle.sketches.specs.CallParts.{far_of, Answers};
 
 use crate::sketch::{Reason, SketchEnd, SketchPort};
 use crate::tests::{EndTest, RowEnd, Test, end_hits, in_end, out_end};
@@ -41,9 +41,7 @@ impl Sketch {
     pub fn cut(&mut self, port: SketchPort) -> Result<Option<SketchPort>, Reason>
         ensures { Left cut_numbers (cut_port (plan_of self.old) port) self.new result }
     {
-        if !self.is_there(port) {
-            return Err(Reason::UnknownPort);
-        }
+        self.find_port(port)?;
         let subports = self.subports_of(port);
         let far = self.far_from(EndTest::AtPort(port));
         self.wires.drop_where(Test::Wire(EndTest::AtPort(port)));
@@ -80,12 +78,11 @@ impl Sketch {
     pub fn tidy(&mut self, port: SketchPort) -> Result<(), Reason>
         ensures { Left done_numbers (tidy_port (plan_of self.old) port) self.new result }
     {
-        if !self.is_there(port) {
-            return Err(Reason::UnknownPort);
-        }
+        self.find_port(port)?;
         if self.subports_of(port) == 0 {
             return Ok(());
         }
+        // Named before the call, which borrows the whole sketch; so is the test in `cut_subport`.
         let left = subports_left(self.above_wired(port));
         self.splits.set_subports(port, left);
         Ok(())

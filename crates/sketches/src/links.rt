@@ -7,7 +7,7 @@ ghost use Rattle.sketches.specs.PlanCalls.{both_linked, link_ports, link_clean};
 ghost use Rattle.sketches.specs.PlanNumbers.{link_numbers};
 ghost use Rattle.sketches.specs.Rows.{wire_of};
 ghost use Rattle.sketches.specs.Held.{plan_of, Left, HeldWf};
-ghost use Rattle.sketches.specs.LinkSteps.{Linkable, judge_ports};
+ghost use Rattle.sketches.specs.CallParts.{Linkable, judge_ports, judge_second};
 
 use crate::rows::Row;
 use crate::sketch::{Reason, SketchEnd, SketchPort};
@@ -23,10 +23,10 @@ fn ends_row(out: SketchEnd, into: SketchEnd) -> Row
     Row(
         out.port.block,
         out.port.position,
-        out.offset as u32,
+        u32::from(out.offset),
         into.port.block,
         into.port.position,
-        into.offset as u32,
+        u32::from(into.offset),
     )
 }
 
@@ -53,32 +53,38 @@ impl Sketch {
 
     // Whether a link names such an input under release 2.
     #[tactic(auto, using(crate::specs::LinkSteps::taken_one, crate::specs::LinkSteps::taken_first_lem, crate::specs::LinkSteps::taken_second_lem))]
-    pub(crate) fn input_taken(&self, x: SketchPort, y: SketchPort) -> bool
+    fn input_taken(&self, x: SketchPort, y: SketchPort) -> bool
         ensures { result ≡ input_taken (plan_of self.now) x y }
     {
-        matches!(self.release, Release::Two) && (self.wired_input(x) || self.wired_input(y))
+        self.release == Release::Two && (self.wired_input(x) || self.wired_input(y))
     }
 
-    // Two ports that are to be linked.
-    #[tactic(auto, unfolding(crate::specs::LinkSteps::judge_ports), using(port_tables::specs::SameSides::sides_compared))]
-    fn judge_ports(&self, x: SketchPort, y: SketchPort) -> Result<(), Reason>
-        ensures is { result ≡ judge_ports (plan_of self.now) x y }
-        ensures wf { HeldWf self.now }
+    // The second of two ports, of which the first is there.
+    #[tactic(auto, using(port_tables::specs::SameSides::sides_compared))]
+    pub(crate) fn judge_second(&self, x: SketchPort, y: SketchPort) -> Result<(), Reason>
+        ensures { result ≡ judge_second (plan_of self.now) x y }
     {
-        if !self.is_there(x) {
-            return Err(Reason::UnknownPort);
-        }
         if self.input_taken(x, y) {
             return Err(Reason::InputWired);
         }
         if !self.is_there(y) {
             return Err(Reason::UnknownSecondPort);
         }
-        let a = x.side;
-        let b = y.side;
-        if a == b {
+        if x.side == y.side {
             return Err(Reason::SameSide);
         }
+        Ok(())
+    }
+
+    // Two ports that are to be linked.
+    // The invariant stands in a clause, as in `ports`.
+    #[tactic(auto, unfolding(crate::specs::CallParts::judge_ports), using(port_tables::specs::SameSides::sides_compared))]
+    fn judge_ports(&self, x: SketchPort, y: SketchPort) -> Result<(), Reason>
+        ensures is { result ≡ judge_ports (plan_of self.now) x y }
+        ensures wf { HeldWf self.now }
+    {
+        self.find_port(x)?;
+        self.judge_second(x, y)?;
         if self.is_full() {
             return Err(Reason::NoRoom);
         }

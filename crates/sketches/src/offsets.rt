@@ -3,7 +3,7 @@ ghost use Rattle.std.specs.Prelude.{◌≡◌, map, not, position};
 ghost use Rattle.sketches.specs.Plan.{spot_named, above_end, above_wired, offset_ready};
 ghost use Rattle.sketches.specs.Rows.{place_in, wire_of};
 ghost use Rattle.sketches.specs.Held.{plan_of};
-ghost use Rattle.sketches.specs.Offsets.{mark, marked, Marks};
+ghost use Rattle.sketches.specs.CallParts.{mark, marked, Marks};
 
 use crate::rows::{ROWS, Row};
 use crate::sketch::SketchPort;
@@ -13,6 +13,7 @@ use crate::totals::Sketch;
 use port_tables::numbers::wide;
 
 // Marks an offset; one beyond the table is left out. Stays a test of the place: of what `get_mut` lends, a proof keeps the length alone.
+// Stays beside `put_flag` of `multi_tables`, on which no sketch rests.
 fn mark(marks: &mut [bool; ROWS], offset: u32)
     ensures { marks.new ≡ mark marks.old offset }
 {
@@ -69,6 +70,8 @@ impl Rows {
     }
 
     // One more than the highest wired offset of a port; 0 where none is wired.
+    // Stays a number, as that of a sketch.
+    // Stays a loop: what `fold` gives is told of the runs of its closure, and the invariant here of rows; no plainer.
     #[tactic(auto, unfolding(crate::specs::Plan::above_wired, crate::specs::Rows::rows_in))]
     fn above_wired(&self, port: SketchPort) -> usize
         ensures { result ≡ above_wired (spot_named port) (map wire_of (listed self.now)) }

@@ -5,9 +5,10 @@ ghost use Rattle.sketches.specs.Plan.{has_block, ports_on_side, is_there, spot_n
 ghost use Rattle.sketches.specs.PlanCalls.{is_full};
 ghost use Rattle.sketches.specs.Rows.{split_of, end_hits};
 ghost use Rattle.sketches.specs.Held.{plan_of, HeldWf};
+ghost use Rattle.sketches.specs.CallParts.{judge_block, judge_port};
 
 use crate::rows::ROWS;
-use crate::sketch::SketchPort;
+use crate::sketch::{Reason, SketchPort};
 use crate::tables::Rows;
 use crate::tests::{EndTest, Test};
 use crate::totals::Sketch;
@@ -17,6 +18,7 @@ impl Rows {
     ghost use Rattle.sketches.specs.Tables.{listed};
 
     // How many subports a port has, in a table of split ports; 0 where it is not there.
+    // Stays a number, as in `subports_of`.
     pub(crate) fn subports_among(&self, port: SketchPort) -> u32
         ensures { result ≡ subports_among (map split_of (listed self.now)) (spot_named port) }
     {
@@ -33,6 +35,17 @@ impl Sketch {
         ensures wf { HeldWf self.now }
     {
         self.blocks.any(Test::Block(name))
+    }
+
+    // Refuses a block that is not there.
+    pub(crate) fn find_block(&self, name: u32) -> Result<(), Reason>
+        ensures found { result ≡ judge_block (plan_of self.now) name }
+        ensures wf { HeldWf self.now }
+    {
+        if !self.has_block(name) {
+            return Err(Reason::UnknownBlock);
+        }
+        Ok(())
     }
 
     // How many ports a block has on a side; 0 where it is not there. Stays a number: a block that is not there has no ports.
@@ -54,8 +67,18 @@ impl Sketch {
         ensures found { result ≡ is_there (plan_of self.now) port }
         ensures wf { HeldWf self.now }
     {
-        let side = port.side;
-        port.position < self.ports_on_side(port.block, side)
+        port.position < self.ports_on_side(port.block, port.side)
+    }
+
+    // Refuses a port that is not there.
+    pub(crate) fn find_port(&self, port: SketchPort) -> Result<(), Reason>
+        ensures found { result ≡ judge_port (plan_of self.now) port }
+        ensures wf { HeldWf self.now }
+    {
+        if !self.is_there(port) {
+            return Err(Reason::UnknownPort);
+        }
+        Ok(())
     }
 
     // How many subports a port has; 0 where it is not split. Stays a number: a port that is not split has none.

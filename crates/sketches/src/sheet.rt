@@ -1,7 +1,7 @@
 // A wiring sheet: entries, each two ports and space for the answer of their link. The links are made in order, a refused one included.
 ghost use Rattle.std.specs.Prelude.{◌≡◌};
 ghost use Rattle.sketches.specs.Held.{plan_of};
-ghost use Rattle.sketches.specs.SheetSteps.{no_entry, SheetLeaves};
+ghost use Rattle.sketches.specs.CallParts.{no_entry, SheetLeaves};
 
 use crate::sketch::{Reason, SheetEntry, SketchPort, TooManyEntries};
 use crate::totals::Sketch;
@@ -11,6 +11,7 @@ use port_tables::direction::Direction;
 pub const SHEET_ENTRIES: usize = 64;
 
 // An entry at which nothing was asked.
+// Its answer stays a Result: each entry of a sheet that is done has an answer, and of one that is refused none is read.
 pub fn no_entry() -> SheetEntry
     ensures { result ≡ no_entry }
 {

@@ -71,3 +71,10 @@ pub struct SheetEntry {
 // There are more entries than a sheet may have: none was done. Stays beside that of `sheets`: below both stand the tables alone, which know no sheet.
 #[derive(Clone, Copy)]
 pub struct TooManyEntries;
+
+// In plain words.
+impl fmt::Display for TooManyEntries {
+    fn fmt<W: Write>(&self, f: &mut fmt::Formatter<W>) -> fmt::Result {
+        f.write_str("a sheet has at most 64 entries")
+    }
+}

@@ -4,7 +4,7 @@ ghost use Rattle.sketches.specs.Plan.{is_there, offset_read, lacks_offset};
 ghost use Rattle.sketches.specs.PlanCalls.{is_wired, bad_offset, link_subports};
 ghost use Rattle.sketches.specs.PlanNumbers.{link_numbers};
 ghost use Rattle.sketches.specs.Held.{plan_of, Left, HeldWf};
-ghost use Rattle.sketches.specs.EndSteps.{judge_end, judge_ends};
+ghost use Rattle.sketches.specs.CallParts.{judge_end, judge_ends};
 
 use crate::links::wire_row;
 use crate::sketch::{Reason, SketchEnd};
@@ -43,7 +43,7 @@ impl Sketch {
         ensures is { result ≡ EndTest.AtEnd end.port (offset_read (plan_of self.now) end.port end.offset) }
         ensures wf { HeldWf self.now }
     {
-        EndTest::AtEnd(end.port, self.offset_read(end) as u32)
+        EndTest::AtEnd(end.port, u32::from(self.offset_read(end)))
     }
 
     // Whether a port is split and has no such offset.
@@ -51,7 +51,7 @@ impl Sketch {
         ensures { result ≡ lacks_offset (plan_of self.now) end.port end.offset }
     {
         let subports = self.subports_of(end.port);
-        subports != 0 && subports <= end.offset as u32
+        subports != 0 && subports <= u32::from(end.offset)
     }
 
     // One end that is named.
@@ -62,9 +62,7 @@ impl Sketch {
         if bad_offset(end.offset) {
             return Err(Reason::BadOffset);
         }
-        if !self.is_there(end.port) {
-            return Err(Reason::UnknownPort);
-        }
+        self.find_port(end.port)?;
         if self.lacks_offset(end) {
             return Err(Reason::UnknownOffset);
         }
@@ -92,30 +90,18 @@ impl Sketch {
     }
 
     // Two ends that are to be linked.
-    #[tactic(auto, using(crate::specs::EndSteps::ends_bad, crate::specs::EndSteps::ends_unknown, crate::specs::EndSteps::ends_lack, crate::specs::EndSteps::ends_taken, crate::specs::EndSteps::ends_second, crate::specs::EndSteps::ends_same_side, crate::specs::EndSteps::ends_wired, crate::specs::EndSteps::ends_full, crate::specs::EndSteps::ends_fine))]
+    #[tactic(auto, using(crate::specs::EndSteps::ends_bad, crate::specs::EndSteps::ends_unknown, crate::specs::EndSteps::ends_lack, crate::specs::EndSteps::ends_second, crate::specs::EndSteps::ends_wired, crate::specs::EndSteps::ends_full, crate::specs::EndSteps::ends_fine))]
     fn judge_ends(&self, x: SketchEnd, y: SketchEnd) -> Result<(), Reason>
         ensures { result ≡ judge_ends (plan_of self.now) x.port x.offset y.port y.offset }
     {
         if bad_offsets(x, y) {
             return Err(Reason::BadOffset);
         }
-        if !self.is_there(x.port) {
-            return Err(Reason::UnknownPort);
-        }
+        self.find_port(x.port)?;
         if self.lack_offsets(x, y) {
             return Err(Reason::UnknownOffset);
         }
-        if self.input_taken(x.port, y.port) {
-            return Err(Reason::InputWired);
-        }
-        if !self.is_there(y.port) {
-            return Err(Reason::UnknownSecondPort);
-        }
-        let a = x.port.side;
-        let b = y.port.side;
-        if a == b {
-            return Err(Reason::SameSide);
-        }
+        self.judge_second(x.port, y.port)?;
         if self.ends_wired(x, y) {
             return Err(Reason::AlreadyLinked);
         }

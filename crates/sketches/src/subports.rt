@@ -5,7 +5,7 @@ ghost use Rattle.sketches.specs.Plan.{is_there, end#, offset_ready, subports_rea
 ghost use Rattle.sketches.specs.PlanCalls.{most_wires};
 ghost use Rattle.sketches.specs.Rows.{split_of};
 ghost use Rattle.sketches.specs.Held.{plan_of};
-ghost use Rattle.sketches.specs.SplitSteps.{splits_with, SplitsRoom, split_row, IsPlan};
+ghost use Rattle.sketches.specs.CallParts.{splits_with, SplitsRoom, split_row, IsPlan};
 
 use crate::rows::Row;
 use crate::sketch::{SketchEnd, SketchPort};
@@ -18,8 +18,7 @@ use port_tables::numbers::wide;
 fn split_row(port: SketchPort, subports: u32) -> Row
     ensures { result ≡ split_row port subports }
 {
-    let side = port.side;
-    Row(port.block, side.index(), port.position, subports, 0, 0)
+    Row(port.block, port.side.index(), port.position, subports, 0, 0)
 }
 
 impl Rows {

@@ -6,8 +6,7 @@ ghost use Rattle.sketches.specs.PlanCalls.{recount};
 ghost use Rattle.sketches.specs.Rows.{row_slots, Table, past, newest_hit, oldest_hit, hits, missed, first, is_there_any, block_of};
 
 use crate::rows::{ROWS, Row};
-use crate::tests::{Test, hits};
-use crate::walks::{Walk, whole_walk};
+use crate::tests::{Test, Walk, hits, whole_walk};
 use port_tables::numbers::wide;
 
 // Stays an array with its count, in one struct: there is no heap.

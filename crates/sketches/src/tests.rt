@@ -3,13 +3,15 @@ ghost use Rattle.std.specs.Prelude.{◌≡◌, ◌<◌};
 ghost use Rattle.port_tables.specs.Places.{of_dropped, at_spot, at_end, end_on};
 ghost use Rattle.sketches.specs.Plan.{spot_named, end_at_place};
 ghost use Rattle.sketches.specs.PlanWf.{most_subports};
+ghost use Rattle.sketches.specs.SketchWalks.{whole_walk};
 ghost use Rattle.sketches.specs.Rows.{side_of, place_in, wire_of, split_of, end_hits, hits};
 
 use crate::rows::Row;
 use crate::sketch::{SketchEnd, SketchPort};
 use port_tables::direction::Direction;
 
-// An end as a row has it.
+// An end as a row has it. Stays beside `SketchEnd`: a row holds any number, and only a wire's is an offset of 16 bits; and beside `SubportWalk` and `EndTest::AtEnd`, which
+// callers make.
 #[derive(Clone, Copy, PartialEq, Eq)]
 pub(crate) struct RowEnd {
     pub port: SketchPort,
@@ -18,6 +20,7 @@ pub(crate) struct RowEnd {
 
 impl RowEnd {
     // The end as a call names it.
+    // Stays a method: it asks that the offset fits, which `From` could not.
     pub(crate) fn named(self) -> SketchEnd
         requires { self.offset < most_subports }
         ensures { result ≡ end_at_place (place_in self) }
@@ -30,10 +33,12 @@ impl RowEnd {
 }
 
 // What an end may be asked.
+// Stays an enum, as `Test`, which holds it.
 #[derive(Clone, Copy)]
 pub enum EndTest {
     OfBlock(u32),
     // Beyond the counts that a block is left with, incoming first.
+    // Three numbers, as `resize` takes them.
     OfDropped(u32, u32, u32),
     AtPort(SketchPort),
     AtEnd(SketchPort, u32),
@@ -55,6 +60,25 @@ pub enum Test {
     Between(u32, u32),
     // A wire whose end on a side is of a block; with the flag, only if the far end is not an output of that block.
     Neighbour(u32, Direction, bool),
+}
+
+// The rows that are left of a walk, and the test on them. Stay two numbers: a Range is not Copy, and a cursor is.
+#[derive(Clone, Copy)]
+pub struct Walk {
+    pub low: usize,
+    pub high: usize,
+    pub test: Test,
+}
+
+// All rows of a table.
+pub fn whole_walk(count: usize, test: Test) -> Walk
+    ensures { result ≡ whole_walk count test }
+{
+    Walk {
+        low: 0,
+        high: count,
+        test,
+    }
 }
 
 // The side of a number, 0 incoming. Stays a function of any number: a TryFrom would have a refusal that no row and no line comes to.

@@ -3,11 +3,12 @@ ghost use Rattle.std.specs.Prelude.{◌≡◌, ◌<◌};
 ghost use Rattle.sketches.specs.Plan.{has_block, is_there};
 ghost use Rattle.sketches.specs.Rows.{wire_of, row_at};
 ghost use Rattle.sketches.specs.Held.{plan_of};
-ghost use Rattle.sketches.specs.SketchWalks.{start_of, whole_walk, wire_held, next_wire, previous_wire, next_block, next_subport, Knows};
+ghost use Rattle.sketches.specs.SketchWalks.{start_of, subports_from, whole_walk, wire_held, next_wire, previous_wire, next_block, next_subport, Knows};
 
 use crate::sketch::{Reason, SketchEnd, SketchPort};
-use crate::tests::{EndTest, Test, in_end, out_end};
+use crate::tests::{EndTest, Test, Walk, in_end, out_end, whole_walk};
 use crate::totals::Sketch;
+use port_tables::direction::Direction;
 
 // A wire, its outgoing end first.
 #[derive(Clone, Copy)]
@@ -16,30 +17,11 @@ pub struct SketchWire {
     pub into: SketchEnd,
 }
 
-// The rows that are left of a walk, and the test on them. Stay two numbers: a Range is not Copy, and a cursor is.
-#[derive(Clone, Copy)]
-pub struct Walk {
-    pub low: usize,
-    pub high: usize,
-    pub test: Test,
-}
-
 // Where a walk over subports stands: the port and the offset that come next. Stays beside `SketchEnd`: who calls may give any offset of 32 bits.
 #[derive(Clone, Copy)]
 pub struct SubportWalk {
     pub port: SketchPort,
     pub offset: u32,
-}
-
-// All rows of a table.
-pub fn whole_walk(count: usize, test: Test) -> Walk
-    ensures { result ≡ whole_walk count test }
-{
-    Walk {
-        low: 0,
-        high: count,
-        test,
-    }
 }
 
 impl Sketch {
@@ -61,9 +43,7 @@ impl Sketch {
     pub fn links_of_port(&self, port: SketchPort) -> Result<Walk, Reason>
         ensures { result ≡ start_of (is_there (plan_of self.now) port) Reason.UnknownPort (whole_walk self.now.totals.wires (Test.Wire (EndTest.AtPort port))) }
     {
-        if !self.is_there(port) {
-            return Err(Reason::UnknownPort);
-        }
+        self.find_port(port)?;
         Ok(self.wires(Test::Wire(EndTest::AtPort(port))))
     }
 
@@ -71,10 +51,23 @@ impl Sketch {
     pub fn wires_of_block(&self, name: u32, test: Test) -> Result<Walk, Reason>
         ensures { result ≡ start_of (has_block (plan_of self.now).blocks name) Reason.UnknownBlock (whole_walk self.now.totals.wires test) }
     {
-        if !self.has_block(name) {
-            return Err(Reason::UnknownBlock);
-        }
+        self.find_block(name)?;
         Ok(self.wires(test))
+    }
+
+    // Starts a walk over the subports of a block's side.
+    pub fn subports(&self, name: u32, side: Direction) -> Result<SubportWalk, Reason>
+        ensures { result ≡ start_of (has_block (plan_of self.now).blocks name) Reason.UnknownBlock (subports_from name side) }
+    {
+        self.find_block(name)?;
+        Ok(SubportWalk {
+            port: SketchPort {
+                block: name,
+                side,
+                position: 0,
+            },
+            offset: 0,
+        })
     }
 
     // The wire of a row.
@@ -82,6 +75,7 @@ impl Sketch {
         requires { i < self.now.totals.wires }
         ensures { result ≡ wire_held (wire_of (row_at self.now.wires i)) }
     {
+        // By a reference, which tells how long the table is.
         let wires = &self.wires;
         let row = wires.rows[i];
         SketchWire {
@@ -91,7 +85,7 @@ impl Sketch {
     }
 
     // The next wire.
-    #[tactic(auto, using(crate::specs::SketchWalks::next_ends, crate::specs::SketchWalks::next_within, crate::specs::SketchWalks::next_gives))]
+    #[tactic(auto, using(crate::specs::WalkSteps::next_ends, crate::specs::WalkSteps::next_within, crate::specs::WalkSteps::next_gives))]
     pub fn next_wire(&self, walk: Walk) -> Option<(SketchWire, Walk)>
         ensures { result ≡ next_wire self.now.wires self.now.totals.wires walk }
     {
@@ -100,7 +94,7 @@ impl Sketch {
     }
 
     // The next wire from the back. Stays beside `next_wire`: which row, and what is left, is all that either says.
-    #[tactic(auto, using(crate::specs::SketchWalks::previous_ends, crate::specs::SketchWalks::previous_within, crate::specs::SketchWalks::previous_gives))]
+    #[tactic(auto, using(crate::specs::WalkSteps::previous_ends, crate::specs::WalkSteps::previous_within, crate::specs::WalkSteps::previous_gives))]
     pub fn previous_wire(&self, walk: Walk) -> Option<(SketchWire, Walk)>
         ensures { result ≡ previous_wire self.now.wires self.now.totals.wires walk }
     {
@@ -109,7 +103,7 @@ impl Sketch {
     }
 
     // The next block, by its name.
-    #[tactic(auto, using(crate::specs::SketchWalks::next_within, crate::specs::SketchWalks::block_ends, crate::specs::SketchWalks::block_gives))]
+    #[tactic(auto, using(crate::specs::WalkSteps::next_within, crate::specs::WalkSteps::block_ends, crate::specs::WalkSteps::block_gives))]
     pub fn next_block(&self, walk: Walk) -> Option<(u32, Walk)>
         ensures { result ≡ next_block self.now.blocks self.now.totals.blocks walk }
     {
@@ -125,7 +119,7 @@ impl Sketch {
     }
 
     // The next subport of a side, by port, then offset.
-    #[tactic(auto, unfolding(crate::specs::SketchWalks::next_subport), using(crate::specs::SketchWalks::subports_on))]
+    #[tactic(auto, unfolding(crate::specs::SketchWalks::next_subport), using(crate::specs::WalkSteps::subports_on))]
     pub fn next_subport(&self, walk: SubportWalk) -> Option<(SketchEnd, SubportWalk)>
         ensures { result ≡ next_subport (plan_of self.now) walk }
     {

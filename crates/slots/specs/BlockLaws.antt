@@ -10,6 +10,7 @@ use Prim.Native.Nat.{ℕ, zero, suc, ◌+◌, ◌-◌, ◌≤◌, ◌<◌}
 use Rattle.std.proofs.Math.Dec.{eqb}
 use Rattle.std.proofs.lemmas.List.{length-replicate}
 use borrow.Author.Tests.{eqb-true, eqb-false, eq-eqb, ne_eqb, ltb-true, ltb-false}
+use Rattle.std.proofs.lemmas.List.{get_or-replicate}
 use Rattle.port_tables.specs.Limits.{node_slots, port_slots, node_ports}
 use Rattle.port_tables.specs.Lists.{Member, Once, Rising, range}
 use Rattle.port_tables.specs.Tables.{at, put, head_at, Within}
@@ -34,11 +35,6 @@ once_apart (x ∷ l) u = ((λ y i e. u.0 (subst (λ z. Member z l) (sym e) i)), 
 pub apart_once : {A : Type 0} (l : List A) → Rising Apart l → Once l
 apart_once [] u = tt
 apart_once (x ∷ l) u = ((λ i. u.0 x i refl), apart_once l u.1)
-
-zeros : (n i : ℕ) → ◌≡◌ {A = ℕ} (get_or (replicate n 0) i 0) 0
-zeros zero i = refl
-zeros (suc n) zero = refl
-zeros (suc n) (suc i) = zeros n i
 
 -- Free lists.
 
@@ -282,7 +278,7 @@ module _ {g : PortGraph} {M : Model} (good : Good M) (holds : Holds g M) where
       go true q =
           laid_keeps size_of (blocks_of g) (replicate port_slots 0) g.port_len 0 (length-replicate {A = ℕ} port_slots 0) (ltb-true g.port_len port_slots q)
           (λ c i e. let w = block_within c i in let p = block_some c i in absurd (omega arith))
-          (at_inside (replicate port_slots 0) g.port_len (ltb-true g.port_len port_slots q) ∙ zeros port_slots g.port_len)
+          (at_inside (replicate port_slots 0) g.port_len (ltb-true g.port_len port_slots q) ∙ get_or-replicate port_slots g.port_len 0 0 (ltb-true g.port_len port_slots q))
       go false q = at_outside (laid size_of (blocks_of g) (replicate port_slots 0)) g.port_len (ltb-false g.port_len port_slots q)
 
   pub slots_listed : SlotsListed g

@@ -4,10 +4,11 @@ use mathlib.Core.List.{List, ◌++◌, flat_map, map}
 use Rattle.port_tables.specs.Limits.{node_slots, port_slots, node_ports}
 use Rattle.port_tables.specs.Lists.{range}
 use Rattle.port_tables.specs.Tables.{head_at}
-use Rattle.port_tables.specs.NodeWords.{meta_in}
+use Rattle.port_tables.specs.NodeTable.{meta_in}
+use Rattle.port_tables.specs.declared.node_entry.NodeSlot.{NodeSlot}
 use Rattle.slots.specs.Blocks.{free, SlotBlock, slot_block, node_holds, chained, size_of, holder_of_block, laid, walk_blocks}
 
-unfoldable pub taken_in : List ℕ → List SlotBlock
+unfoldable pub taken_in : List NodeSlot → List SlotBlock
 taken_in nodes = flat_map (λ n. node_holds n (meta_in nodes n)) (range 0 node_slots)
 
 -- the blocks of a free list, from its head on
@@ -18,7 +19,7 @@ unfoldable pub free_in : List ℕ → List ℕ → List SlotBlock
 free_in links heads = flat_map (λ k. list_from links (head_at heads k) k port_slots) (range 1 node_ports)
 
 -- the blocks of lent tables by first slot
-unfoldable pub list_in : List ℕ → List ℕ → List ℕ → List SlotBlock
+unfoldable pub list_in : List NodeSlot → List ℕ → List ℕ → List SlotBlock
 list_in nodes links heads =
     walk_blocks (laid size_of (taken_in nodes ++ free_in links heads) (replicate port_slots 0)) (laid holder_of_block (taken_in nodes ++ free_in links heads) (replicate port_slots 0))
     0 port_slots

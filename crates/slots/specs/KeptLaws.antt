@@ -13,7 +13,7 @@ use Rattle.portgraph.specs.GoodLaws.{next_slot_gone, good_add, good_remove, good
 use Rattle.portgraph.specs.Calls.{add_node, remove_node, link_ports, unlink_port}
 use Rattle.portgraph.specs.Resize.{set_num_ports, set_by, refuse}
 use Rattle.port_tables.specs.ResizeLinks.{round_up, same_counts, fits_inside}
-use Rattle.portgraph.specs.ResizeSteps.{round_up_reaches, round_up_positive, round_up_fits}
+use Rattle.portgraph.specs.ResizeSteps.{round_up_reaches, round_up_positive, round_up_fits, fits_below}
 use Rattle.portgraph.specs.ResizeLaws.{plan_live, plan_where, set_law, wf_set}
 use Rattle.portgraph.specs.InsideHolds.{inside_holds}
 use Rattle.portgraph.specs.AnewHolds.{anew_holds}
@@ -225,15 +225,6 @@ leads_unlink g p w = (wf_unlink g p w, go (unlink_port g p).graph (unlink_port g
     go g' (Ok None) s = subst (KeepsBlocks g) (sym s.0) (same_keeps g)
     go g' (Err q) s = subst (KeepsBlocks g) (sym s.0) (same_keeps g)
 
-inside_fits : (m : NodeMeta) (i o : ℕ) → fits_inside m i o ≡ true → i + o ≤ m.capacity
-unfolding fits_inside
-inside_fits m i o e = go (ltb 0 (i + o)) (ltb (i + o) m.capacity) refl e
-  where
-    go : (a b : Bool) → ltb (i + o) m.capacity ≡ b → cond a b false ≡ true → i + o ≤ m.capacity
-    go true true q e = let h = ltb-true (i + o) m.capacity q in omega arith
-    go true false q e = absurd (zero_is_not_one (cc))
-    go false b q e = absurd (zero_is_not_one (cc))
-
 pub leads_set : (g : PortGraph) (n i o room : ℕ) → LeadsOn g (set_num_ports g n i o room).graph
 leads_set g n i o room w = (
   wf_set g n i o room w,
@@ -244,7 +235,7 @@ leads_set g n i o room w = (
         KeepsBlocks g (set_by g n i o (plan_live w.model i o m a b c)).graph
     by_counts m e few true b c q r = same_keeps g
     by_counts m e few false true c q r =
-        let fit = inside_fits m i o q in
+        let fit = fits_below m i o q in
         by_models w.good w.holds (good_resize w.good n m e i o fit) (inside_holds w.good w.holds n m e i o fit) (keeps_resize w.model n m e i o)
     by_counts m e few false false true q r =
         let size = round_up (i + o) in

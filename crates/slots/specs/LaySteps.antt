@@ -11,13 +11,12 @@ use Rattle.port_tables.specs.Lists.{range}
 use Rattle.port_tables.specs.Tables.{at, put, head_at}
 use Rattle.portgraph.specs.GoodSlots.{zero_is_not_one}
 use Rattle.portgraph.specs.TableLaws.{at_outside}
-use Rattle.portgraph.specs.Lent.{graph_in}
-use Rattle.port_tables.specs.NodeWords.{slots_in, meta_in}
-use Rattle.portgraph.specs.LentSteps.{meta_read}
-use Rattle.port_tables.specs.declared.lent.Counts.{Counts}
+use Rattle.port_tables.specs.NodeTable.{meta_in}
+use Rattle.portgraph.specs.declared.portgraph.PortGraph.{PortGraph}
+use Rattle.port_tables.specs.declared.node_entry.NodeSlot.{NodeSlot}
+use Rattle.portgraph.specs.declared.tables.Counts.{Counts}
 use Rattle.port_tables.specs.declared.node_entry.NodeMeta.{NodeMeta}
 use Rattle.multiportgraph.specs.WellFormed.{MultiWf}
-use Rattle.multiportgraph.specs.MultiLent.{Totals, multi_in}
 use Rattle.multiportgraph.specs.declared.multiportgraph.MultiPortGraph.{MultiPortGraph}
 use Rattle.slots.specs.Blocks.{Holder, by_node, free, SlotBlock, slot_block, node_holds, held_blocks, chained, free_of, free_blocks, holder_number, holder_of, size_of, holder_of_block, laid, sizes_laid, holders_laid, walk_blocks, slot_list, block_numbers, node_of, told, block_told, slots_told, told_numbers, node_number}
 use Rattle.port_tables.specs.declared.index.NodeIndex.{NodeIndex}
@@ -101,14 +100,9 @@ list_on links head size (suc n) some h =
 
 -- The tables.
 
-pub listed_in : (nodes links owners heads : List ℕ) (counts : Counts) → length (slots_in nodes) ≡ node_slots →
-    list_in nodes links heads ≡ slot_list (graph_in nodes links owners heads counts)
+pub listed_in : (g : PortGraph) → list_in g.node_meta g.port_link g.port_free ≡ slot_list g
 unfolding list_in slot_list sizes_laid holders_laid held_blocks free_blocks taken_in free_in list_from free_of
-listed_in nodes links owners heads counts long =
-    ap (λ (f : ℕ → List SlotBlock).
-    walk_blocks (laid size_of (flat_map f (range 0 node_slots) ++ free_in links heads) (replicate port_slots 0)) (laid holder_of_block (flat_map f (range 0 node_slots) ++ free_in links heads) (replicate port_slots 0))
-    0 port_slots)
-    (λ i n. node_holds n (meta_read nodes links owners heads counts n long i))
+listed_in g = refl
 
 -- Turns of the loops.
 
@@ -140,7 +134,7 @@ module _ {whole : List SlotBlock} {s₀ h₀ s h : List ℕ} where
   list_out links next size n x z = left_none (rw (sym (ap (list_from links next size) z)) x)
 
 -- all that is held, and all that is free, is left at first
-pub held_begun : (nodes s h : List ℕ) → Left (taken_in nodes) (flat_map (λ n. node_holds n (meta_in nodes n)) (range 0 (node_slots - 0))) s h s h
+pub held_begun : (nodes : List NodeSlot) (s h : List ℕ) → Left (taken_in nodes) (flat_map (λ n. node_holds n (meta_in nodes n)) (range 0 (node_slots - 0))) s h s h
 unfolding taken_in
 held_begun nodes s h = left_all _ s h
 
@@ -209,7 +203,7 @@ module _ (sizes holders : List ℕ) {whole : List SlotBlock} {l₀ l : List list
       ended count (walk_blocks sizes holders slot (port_slots - count)) (ap (walk_blocks sizes holders slot) n) x
 
 -- The block of a node: none where it is not live or has no slot.
-module _ (nodes : List ℕ) (n : ℕ) (v : Option NodeMeta) (s h : List ℕ) where
+module _ (nodes : List NodeSlot) (n : ℕ) (v : Option NodeMeta) (s h : List ℕ) where
   pub node_gone : v ≡ meta_in nodes n → v ≡ None → LaysBoth (node_holds n (meta_in nodes n)) s h s h
   node_gone e z = rw (sym e ∙ z) (lays_none s h)
 
@@ -228,7 +222,7 @@ pub from_head : (links heads : List ℕ) (size head : ℕ) {s h s' h' : List ℕ
 from_head links heads size head e x = rw e at x
 
 -- Both tables, from nothing laid: what is held and then what is free.
-pub laid_all : (nodes links heads : List ℕ) {s₀ h₀ s h s' h' : List ℕ} → (s₀ ≡ replicate port_slots 0) × (h₀ ≡ replicate port_slots 0) → LaysBoth (taken_in nodes) s₀ h₀ s h → LaysBoth (free_in links heads) s h s' h' →
+pub laid_all : (nodes : List NodeSlot) (links heads : List ℕ) {s₀ h₀ s h s' h' : List ℕ} → (s₀ ≡ replicate port_slots 0) × (h₀ ≡ replicate port_slots 0) → LaysBoth (taken_in nodes) s₀ h₀ s h → LaysBoth (free_in links heads) s h s' h' →
     (walk_blocks s' h' 0 port_slots ≡ list_in nodes links heads)
 unfolding list_in
 laid_all nodes links heads none x y =
@@ -241,15 +235,11 @@ pub listed_so : (blocks list : List SlotBlock) (l l' : List listed.SlotBlock) (r
     (r ≡ length list) × (l' ≡ sets l 0 (map block_told list))
 listed_so blocks list l l' r e x = (x.0 ∙ ap length e, x.1 ∙ ap (λ (b : List SlotBlock). sets l 0 (map block_told b)) e)
 
--- and those of the graph that the tables are
-pub listed_of : (m : MultiPortGraph) (nodes links owners heads : List ℕ) (marks flags : List Bool) (held : Totals) → multi_in nodes links owners heads marks flags held ≡ m → MultiWf m →
-    (l l' : List listed.SlotBlock) (r : ℕ) → (r ≡ length (list_in nodes links heads)) × (l' ≡ sets l 0 (map block_told (list_in nodes links heads))) →
-    (r ≡ length (slot_list m.graph)) × (l' ≡ sets l 0 (slots_told m.graph))
+-- and those of the graph whose tables they are
+pub listed_of : (g : PortGraph) (l l' : List listed.SlotBlock) (r : ℕ) → (r ≡ length (list_in g.node_meta g.port_link g.port_free)) × (l' ≡ sets l 0 (map block_told (list_in g.node_meta g.port_link g.port_free))) →
+    (r ≡ length (slot_list g)) × (l' ≡ sets l 0 (slots_told g))
 unfolding slots_told
-listed_of m nodes links owners heads marks flags held e w l l' r x =
-    let long : length (slots_in nodes) ≡ node_slots = ap (λ (k : MultiPortGraph). length k.graph.node_meta) e ∙ w.fine.holds.nodes_long in
-    listed_so (list_in nodes links heads) (slot_list m.graph) l l' r
-    (listed_in nodes links owners heads held.counts long ∙ ap (λ (k : MultiPortGraph). slot_list k.graph) e) x
+listed_of g l l' r x = listed_so (list_in g.node_meta g.port_link g.port_free) (slot_list g) l l' r (listed_in g) x
 
 -- The blocks that are told have the numbers of the listing.
 pub told_alike : (l : List SlotBlock) → flat_map told_numbers (map block_told l) ≡ flat_map block_numbers l

@@ -1,17 +1,18 @@
 // Each block of a graph lays its size, and who has it, at its first slot in two tables.
 ghost use Rattle.std.specs.Prelude.{◌≡◌, [], ◌∷◌, ◌<◌, replicate};
 ghost use Rattle.port_tables.specs.Limits.{node_slots, port_slots};
-ghost use Rattle.port_tables.specs.NodeWords.{meta_in};
+ghost use Rattle.port_tables.specs.NodeTable.{meta_in};
 ghost use Rattle.slots.specs.Blocks.{slot_block, holder_of, node_holds};
 ghost use Rattle.slots.specs.Forms.{taken_in, list_from, free_in, LaysBoth};
 
 use port_tables::index::{FREE_LISTS, NODE_PORTS, NODE_SLOTS, PORT_SLOTS};
-use port_tables::lent::{NODE_WORDS, meta_in};
+use port_tables::node_entry::NodeSlot;
+use port_tables::node_table::meta_in;
 use port_tables::numbers::wide;
 use port_tables::tables::{at, head_at, put};
 
 // The size of each block that is laid, and who has it, at its first slot: 0 for a free one, else one higher than the node. Stay numbers in two
-// arrays: the tables of `port_tables`, whose `put` and `at` they are laid and read by, are of numbers.
+// arrays: they are laid and read by `put` and `at` of the tables' crate, and one array of structs would need both again, with their definitions.
 #[derive(Drop)]
 pub(crate) struct Laid {
     pub(crate) sizes: [u32; PORT_SLOTS],
@@ -39,7 +40,7 @@ impl Laid {
     }
 
     // Lays the block that a node holds, if it is live and has one.
-    fn lay_node(&mut self, nodes: &[u32; NODE_WORDS], node: u32)
+    fn lay_node(&mut self, nodes: &[NodeSlot; NODE_SLOTS], node: u32)
         requires { node < node_slots }
         ensures { LaysBoth (node_holds node (meta_in nodes.now node)) self.old.sizes self.old.holders self.new.sizes self.new.holders }
     {
@@ -53,7 +54,8 @@ impl Laid {
     }
 
     // Lays the blocks that the nodes of a table hold.
-    pub(crate) fn lay_nodes(&mut self, nodes: &[u32; NODE_WORDS])
+    // Over the numbers: `meta_in` reads a node by its number.
+    pub(crate) fn lay_nodes(&mut self, nodes: &[NodeSlot; NODE_SLOTS])
         ensures { LaysBoth (taken_in nodes.now) self.old.sizes self.old.holders self.new.sizes self.new.holders }
     {
         for n in 0..NODE_SLOTS {

@@ -8,13 +8,11 @@ ghost use Rattle.slots.specs.Blocks.{holder_of, node_of, walk_blocks, block_told
 ghost use Rattle.slots.specs.Forms.{list_in};
 
 use crate::laying::Laid;
-use multiportgraph::lent_graph::LentGraph;
 use multiportgraph::multiportgraph::MultiPortGraph;
 use port_tables::index::{NodeIndex, PORT_SLOTS};
 use port_tables::numbers::wide;
-use port_tables::release::Release;
 use port_tables::tables::at;
-use portgraph::lent_graph::PortTables;
+use portgraph::portgraph::PortGraph;
 
 // A block of port slots: its first slot, its size, and the node that holds it; none holds a free block.
 #[derive(Clone, Copy)]
@@ -32,6 +30,7 @@ fn node_of(number: u32) -> Option<NodeIndex>
 }
 
 // Walks what is laid from slot 0 on, until no size is; answers how many blocks there are.
+// Stays a range: of what `iter_mut` lends, a proof keeps what was written only where every place is gone through, and this walk stops before.
 fn walk(laid: &Laid, list: &mut [SlotBlock; PORT_SLOTS]) -> usize
     ensures { (result ≡ length (walk_blocks laid.now.sizes laid.now.holders 0 port_slots))
         × (list.new ≡ sets list.old 0 (map block_told (walk_blocks laid.now.sizes laid.now.holders 0 port_slots))) }
@@ -53,24 +52,23 @@ fn walk(laid: &Laid, list: &mut [SlotBlock; PORT_SLOTS]) -> usize
     PORT_SLOTS
 }
 
-// Lists the blocks of lent tables.
-fn list_in(tables: &PortTables, list: &mut [SlotBlock; PORT_SLOTS]) -> usize
-    ensures { (result ≡ length (list_in tables.now.nodes tables.now.links tables.now.heads))
-        × (list.new ≡ sets list.old 0 (map block_told (list_in tables.now.nodes tables.now.links tables.now.heads))) }
+// Lists the blocks of a single-link graph.
+fn list_in(graph: &PortGraph, list: &mut [SlotBlock; PORT_SLOTS]) -> usize
+    ensures { (result ≡ length (list_in graph.now.node_meta graph.now.port_link graph.now.port_free))
+        × (list.new ≡ sets list.old 0 (map block_told (list_in graph.now.node_meta graph.now.port_link graph.now.port_free))) }
 {
     let mut laid = Laid::new();
-    laid.lay_nodes(&tables.nodes);
-    laid.lay_lists(&tables.links, &tables.heads);
+    laid.lay_nodes(graph.node_table());
+    laid.lay_lists(graph.link_table(), graph.head_table());
     walk(&laid, list)
 }
 
 // Lists every block of a graph's used port table by its first slot, and answers how many there are. What stands past the last
 // block stays.
-pub fn list_slots(graph: MultiPortGraph, list: &mut [SlotBlock; PORT_SLOTS]) -> usize
-    requires { MultiWf graph }
-    ensures { (result ≡ length (slot_list graph.graph)) × (list.new ≡ sets list.old 0 (slots_told graph.graph)) }
+// Stays a lent list with a count: no library has a heap.
+pub fn list_slots(graph: &MultiPortGraph, list: &mut [SlotBlock; PORT_SLOTS]) -> usize
+    requires { MultiWf graph.now }
+    ensures { (result ≡ length (slot_list graph.now.graph)) × (list.new ≡ sets list.old 0 (slots_told graph.now.graph)) }
 {
-    let mut held = LentGraph::new(Release::One);
-    held.put(graph);
-    list_in(&held.ports, list)
+    list_in(graph.as_portgraph(), list)
 }

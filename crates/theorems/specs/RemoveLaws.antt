@@ -88,7 +88,7 @@ block_place_node n k i = go (ltb i k.incoming)
     go false = refl
 
 -- the port with a number among a block's
-port_of_block : (m : MultiPortGraph) (M : Model) (n : ℕ) (k : NodeMeta) → BlockIs m M n k → (p : ℕ) → k.first_port.0 ≤ p → p < k.first_port.0 + (k.incoming + k.outgoing)
+pub port_of_block : (m : MultiPortGraph) (M : Model) (n : ℕ) (k : NodeMeta) → BlockIs m M n k → (p : ℕ) → k.first_port.0 ≤ p → p < k.first_port.0 + (k.incoming + k.outgoing)
     → (x : model.InnerPlace) × Seen m M x × (slot_of M.node x ≡ p) × (x.node ≡ n)
 port_of_block m M n k b p low high =
     let r = block_run M.node n k b.1 in
@@ -204,17 +204,31 @@ pub record RemoveDone (m : MultiPortGraph) (M : Model) (m' : MultiPortGraph) (n 
   pub only : (i : ℕ) (l : NodeMeta) → BlockIs m' model i l → BlockIs m M i l × (i ≡ n → ⊥)
   pub wires : Wiring m M m' model (of_node n) []
 
+-- a block whose ports were all unsplit has no split port
+pub block_unsplit : {m : MultiPortGraph} {M M' : Model} {n : ℕ} (k : NodeMeta) (N : Model) → Passed m M (unsplit_range m k.first_port.0 (k.incoming + k.outgoing)) M' n k.first_port.0 (k.incoming + k.outgoing)
+    → BlockIs (unsplit_range m k.first_port.0 (k.incoming + k.outgoing)) N n k
+    → (z : model.InnerPlace) → Valid N.node z → z.node ≡ n → is_split (unsplit_range m k.first_port.0 (k.incoming + k.outgoing)) (slot_of N.node z) ≡ false
+block_unsplit {m} {M} {M'} {n} k N p c z v e =
+    let s : N.node z.node ≡ live k = ap N.node e ∙ c.1 in
+    let u : z.pos < count_of (live k) z.side = subst (λ (t : Slots). z.pos < count_of t z.side) s v in
+    ap (λ (t : Slots). is_split (unsplit_range m k.first_port.0 (k.incoming + k.outgoing)) (first_of t + (side_start t z.side + z.pos))) s
+    ∙ p.unsplit (k.first_port.0 + (side_start (live k) z.side + z.pos)) (omega arith) (within z.side u)
+  where
+    within : (d : Direction) → z.pos < ports_on k d → k.first_port.0 + (side_start (live k) d + z.pos) < k.first_port.0 + (k.incoming + k.outgoing)
+    within Incoming l = omega arith
+    within Outgoing l = omega arith
+
 pub drop_block_done : {m : MultiPortGraph} {M : Model} → Fine m M → (n : ℕ) (k : NodeMeta) → BlockIs m M n k → RemoveDone m M (drop_block m n k) n
 unfolding drop_block
 drop_block_done {m} {M} f n k b =
     let r = range_passed (k.incoming + k.outgoing) f n k b k.first_port.0 (omega arith) (omega arith) in
     let c : BlockIs passed r.0 n k = r.1.blocks.0 n k b in
-    let w = node_wires r.1.fine n k c (whole r.0 r.1 c) in
+    let w = node_wires r.1.fine n k c (block_unsplit k r.0 r.1 c) in
     record {
       meta = k;
       was = b;
       model = remove_model r.0 n k;
-      fine = frame_fine r.1.fine (node_frame r.1.fine n k c (whole r.0 r.1 c));
+      fine = frame_fine r.1.fine (node_frame r.1.fine n k c (block_unsplit k r.0 r.1 c));
       kept = λ i l other a.
           let d = r.1.blocks.0 i l a in
           (hidden_below passed (remove_node passed.graph n).graph i ∙ d.0, upd_other r.0.node n gone i other ∙ d.1);
@@ -231,19 +245,6 @@ drop_block_done {m} {M} f n k b =
   where
     passed : MultiPortGraph
     passed = unsplit_range m k.first_port.0 (k.incoming + k.outgoing)
-
-    whole : (M' : Model) → Passed m M (unsplit_range m k.first_port.0 (k.incoming + k.outgoing)) M' n k.first_port.0 (k.incoming + k.outgoing)
-        → BlockIs (unsplit_range m k.first_port.0 (k.incoming + k.outgoing)) M' n k
-        → (z : model.InnerPlace) → Valid M'.node z → z.node ≡ n → is_split (unsplit_range m k.first_port.0 (k.incoming + k.outgoing)) (slot_of M'.node z) ≡ false
-    whole M' p c z v e =
-        let s : M'.node z.node ≡ live k = ap M'.node e ∙ c.1 in
-        let u : z.pos < count_of (live k) z.side = subst (λ (t : Slots). z.pos < count_of t z.side) s v in
-        ap (λ (t : Slots). is_split (unsplit_range m k.first_port.0 (k.incoming + k.outgoing)) (first_of t + (side_start t z.side + z.pos))) s
-        ∙ p.unsplit (k.first_port.0 + (side_start (live k) z.side + z.pos)) (omega arith) (within z.side u)
-      where
-        within : (d : Direction) → z.pos < ports_on k d → k.first_port.0 + (side_start (live k) d + z.pos) < k.first_port.0 + (k.incoming + k.outgoing)
-        within Incoming l = omega arith
-        within Outgoing l = omega arith
 
 abbrev pub RemoveSays : MultiPortGraph → Model → ℕ → MultiPortGraph → Result (Unit {0}) Refusal → Type 0
 RemoveSays m M n m' (Ok tt) = RemoveDone m M m' n

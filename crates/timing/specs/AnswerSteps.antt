@@ -1,6 +1,6 @@
 -- What the functions that answer of a graph cite: the listing of its wires, the answer off the settled tables, a path, and orders.
 use Rattle.std.proofs.Math.Path.{◌≡◌, refl, sym, ap}
-use Rattle.std.proofs.Common.{◌∙◌, length-set, drop_of_length-le, drop-cons, drop-set-lt, get_or-set_same, eq-eqb, ne_eqb, le-leb, lt-ltb, le-ltb}
+use Rattle.std.proofs.Common.{◌∙◌, length-set, drop_of_length-le, drop-cons, drop-set-lt, get_or-set_same, eq-eqb, ne_eqb, le-leb}
 use Rattle.std.specs.Prelude.{Bool, true, false, ltb, length, take, drop, Result, Ok, Err, OnOk}
 use Rattle.std.specs.Result.{IsErrAnd}
 use mathlib.Core.List.{List, [], ◌∷◌, ◌++◌, map}
@@ -8,6 +8,12 @@ use Prim.Native.Nat.{ℕ, zero, suc, ◌+◌, ◌-◌, ◌*◌, ◌/◌, ◌≤�
 use native.Mathlib.Omega.{arith}
 use Rattle.std.proofs.Math.ListN.{get_or, set}
 use Rattle.std.proofs.lemmas.Bool.{lt-leb}
+use Rattle.std.specs.Prelude.{Option, MatchBool, ◌&&◌}
+use Rattle.std.specs.List.{list_all}
+use Rattle.std.specs.Iterator.Runs.{Run, AllItemsGive, AnyItemGives, CallKeepsClosure, IsChunksExactRun}
+use denote.Param.Members.{Mut, Called}
+use Rattle.std.proofs.Common.{Bor, get_or-take, get_or-drop, drop-drop}
+use Rattle.files.specs.CheckSteps.{chunks, chunks_tested}
 use Rattle.port_tables.specs.Limits.{node_slots, port_slots}
 use Rattle.port_tables.specs.Lists.{Member, Rising, range}
 use Rattle.portgraph.specs.Model.{Model}
@@ -28,13 +34,13 @@ use Rattle.files.specs.Forms.{node_listed, nodes_of, blocks_in}
 use Rattle.files.specs.RankLaws.{blocks_rise}
 use Rattle.files.specs.SaveSteps.{listing_taken, listed_blocks, listed_wires, nodes_are}
 use Rattle.timing.specs.Longest.{Feed, feeds_in, feeders, longest_among, longest_timed, longest_from, longest_of, longest_numbers}
-use Rattle.timing.specs.Settling.{feeds_listed, Tables, zeros, settled, sum_at, path_back, path_among}
+use Rattle.timing.specs.Settling.{feed_at, feeds_listed, Tables, zeros, settled, sum_at, path_back, path_among}
 use Rattle.timing.specs.RunOrder.{run_order}
 use Rattle.timing.specs.RunOrderLaws.{right_length, right_named, right_forward, found_right, run_order_right, right_run_order}
 use Rattle.timing.specs.TimingClaims.{RightOrder}
 use Rattle.timing.specs.Naming.{marked, named, all_forward}
 use Rattle.timing.specs.Path.{if_longest, listed_by, sum_of, path_of, path_listed, path_after}
-use Rattle.timing.specs.SettleSteps.{listed_next, listed_end, feeds_next, feeds_end, feed_one_more}
+use Rattle.timing.specs.SettleSteps.{listed_next, listed_end}
 use Rattle.timing.specs.StartLaws.{FeedsFit, zeros_long, zeros_read, answer_settled}
 use Rattle.timing.specs.FeedLaws.{feeds_listed_lem, feeders_between, block_below}
 use Rattle.timing.specs.declared.answers.LongestError.{LongestError}
@@ -224,35 +230,25 @@ module _ (order : List ℕ) (i : ℕ) (places : List ℕ) where
   unfolding named
   name_end h = sym (ap (named places i) (drop_of_length-le order {i = i} h))
 
-module _ (ends places : List ℕ) (i : ℕ) where
-  abbrev goes : Feed → Bool
-  goes f = ltb (get_or places f.source 0) (get_or places f.target 0)
+abbrev forward : List ℕ → List ℕ → Bool
+forward places wire = ltb (get_or places (get_or wire 2 0) 0) (get_or places (get_or wire 6 0) 0)
 
-  module _ (inside : i < length ends / 8) {a b x y : ℕ} (isSource : x ≡ get_or places a 0) (source : a ≡ get_or ends (8 * i + 2) 0) (isTarget : y ≡ get_or places b 0) (target : b ≡ get_or ends (8 * i + 6) 0) where
-    source_is : x ≡ get_or places (get_or ends (8 * i + 2) 0) 0
-    source_is = isSource ∙ ap (λ (n : ℕ). get_or places n 0) source
+wires_forward : (places ends : List ℕ) (i m : ℕ) → list_all (forward places) (chunks 8 m (drop (8 * i) ends)) ≡ all_forward places (map (feed_at ends) (range i m))
+unfolding chunks all_forward range
+wires_forward places ends i zero = refl
+wires_forward places ends i (suc m) =
+    let g : (j : ℕ) → j < 8 → get_or (take 8 (drop (8 * i) ends)) j 0 ≡ get_or ends (8 * i + j) 0 = λ j h. get_or-take 8 (drop (8 * i) ends) j 0 h ∙ get_or-drop (8 * i) ends j 0 in
+    let d : drop 8 (drop (8 * i) ends) ≡ drop (8 * suc i) ends = drop-drop 8 (8 * i) ends ∙ ap (λ (n : ℕ). drop n ends) (omega arith) in
+    let a = g 2 (omega arith) in
+    let b = g 6 (omega arith) in
+    let later = ap (λ (l : List ℕ). list_all (forward places) (chunks 8 m l)) d ∙ wires_forward places ends (suc i) m in
+    λ j. ltb (get_or places (a j) 0) (get_or places (b j) 0) && later j
 
-    target_is : y ≡ get_or places (get_or ends (8 * i + 6) 0) 0
-    target_is = isTarget ∙ ap (λ (n : ℕ). get_or places n 0) target
-
-    pub forward_stop : y ≤ x → false ≡ all_forward places (drop i (feeds_listed ends))
-    unfolding all_forward
-    forward_stop h =
-        let p = source_is in
-        let q = target_is in
-        sym (ap (all_forward places) (feeds_next ends i inside) ∙ rw (le-ltb (get_or places (get_or ends (8 * i + 2) 0) 0) (get_or places (get_or ends (8 * i + 6) 0) 0) (omega arith)) refl)
-
-    pub forward_turn : x < y → all_forward places (drop (i + 1) (feeds_listed ends)) ≡ all_forward places (drop i (feeds_listed ends))
-    unfolding all_forward
-    forward_turn h =
-        let p = source_is in
-        let q = target_is in
-        ap (all_forward places) (sym (feed_one_more ends i))
-        ∙ sym (ap (all_forward places) (feeds_next ends i inside) ∙ rw (lt-ltb (get_or places (get_or ends (8 * i + 2) 0) 0) (get_or places (get_or ends (8 * i + 6) 0) 0) (omega arith)) refl)
-
-  pub forward_end : length ends / 8 ≤ i → true ≡ all_forward places (drop i (feeds_listed ends))
-  unfolding all_forward
-  forward_end h = sym (ap (all_forward places) (feeds_end ends i h))
+module _ {S F : Type 0} {steps : S → Option (Bor (List ℕ)) → S → Type 0} {g : Mut F (Bor (List ℕ) × Unit {0}) Bool} {f : F} (ends : Bor (List ℕ)) (places : List ℕ) (p : Run steps) (r : IsChunksExactRun p 8 ends.now) (b : Bool)
+    (h : MatchBool b ((p.whole ≡ true) × AllItemsGive p g f true) (AnyItemGives p g f false)) (said : (x : Bor (List ℕ)) (b : Bool) → Called g f (x, tt) b f → b ≡ forward places x.now) (keeps : CallKeepsClosure g f) where
+  pub forward_tested : b ≡ all_forward places (feeds_listed ends.now)
+  unfolding feeds_listed
+  forward_tested = chunks_tested 8 ends (λ k h. omega arith) (forward places) said keeps p r b h ∙ wires_forward places ends.now 0 (length ends.now / 8)
 
 -- What is found is the answer.
 

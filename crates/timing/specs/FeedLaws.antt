@@ -6,6 +6,7 @@ use mathlib.Core.List.{List, [], ◌∷◌, ◌++◌, map, flat_map, append_asso
 use Rattle.std.proofs.Math.Logic.{⊎_elim}
 use native.Mathlib.Omega.{arith}
 use Rattle.std.proofs.Math.ListN.{length, get_or, length-append}
+use Rattle.std.proofs.lemmas.Simd.{map-map}
 use Rattle.port_tables.specs.Limits.{node_slots}
 use Rattle.port_tables.specs.Lists.{Member, Rising, range}
 use Rattle.portgraph.specs.Model.{Model}
@@ -54,10 +55,6 @@ module _ (m : MultiPortGraph) where
       ap (λ (z : List ℕ). map (feed_at z) (range (suc i) (length l))) (sym a) ∙ r in
       λ j. record { source = s j; target = t j } ∷ q j
 
-map_map : {A B C : Type 0} (f : A → B) (g : B → C) (l : List A) → map (λ x. g (f x)) l ≡ map g (map f l)
-map_map f g [] = refl
-map_map f g (x ∷ l) = ap (λ k. g (f x) ∷ k) (map_map f g l)
-
 module _ {m : MultiPortGraph} {M : Model} (f : Fine m M) where
   -- what is read off the listing
   pub feeds_listed_lem : feeds_listed (wires_listed m) ≡ feeds_in m
@@ -65,7 +62,7 @@ module _ {m : MultiPortGraph} {M : Model} (f : Fine m M) where
   feeds_listed_lem =
       let n : length (flat_map (wire_numbers m) (all_wires m)) / 8 ≡ length (all_wires m) = let e = listed_long in omega arith in
       ap (λ (k : ℕ). map (feed_at (flat_map (wire_numbers m) (all_wires m))) (range 0 k)) n
-      ∙ (feeds_from m (all_wires m) [] 0 refl ∙ (map_map (wire_places m) feed_of (all_wires m) ∙ ap (map feed_of) (sym (walked_places f))))
+      ∙ (feeds_from m (all_wires m) [] 0 refl ∙ (sym (map-map feed_of (wire_places m) (all_wires m)) ∙ ap (map feed_of) (sym (walked_places f))))
     where
       listed_long : length (flat_map (wire_numbers m) (all_wires m)) ≡ 8 * length (all_wires m)
       listed_long = unfold wires_listed in wires_length m

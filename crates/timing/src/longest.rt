@@ -8,40 +8,37 @@ ghost use Rattle.timing.specs.Path.{path_listed, path_after, sum_of};
 use crate::answers::{LongestError, PathListed};
 use crate::path::put_path;
 use crate::settle::Settling;
+use crate::tables::wires_in;
 use multiportgraph::multiportgraph::MultiPortGraph;
 use port_tables::index::{MOST_WIRES, NODE_SLOTS, NodeIndex};
 use port_tables::numbers::wide;
 
-// Blocks are settled along the wires of a graph; answers the largest sum that ends at one. Not inlined: the copies of the graph here then do not lie on the stack while a caller
+// Blocks are settled along the wires of a graph; answers the largest sum that ends at one. Not inlined: the list of the wires then does not lie on the stack while a caller
 // makes the graph.
 #[inline(never)]
 fn settle_graph(
     settling: &mut Settling,
-    graph: MultiPortGraph,
+    graph: &MultiPortGraph,
     block: NodeIndex,
     times: &[u16],
 ) -> Result<u32, LongestError>
-    requires { MultiWf graph × (settling.old ≡ unsettled) }
-    ensures answer { result ≡ longest_of graph block.0 times.now }
-    ensures walked { OnOk result (settling.new ≡ settled (feeds_in graph) times.now) }
+    requires { MultiWf graph.now × (settling.old ≡ unsettled) }
+    ensures answer { result ≡ longest_of graph.now block.0 times.now }
+    ensures walked { OnOk result (settling.new ≡ settled (feeds_in graph.now) times.now) }
 {
     graph.node_port_capacity(block)?;
     if times.len() != NODE_SLOTS {
         return Err(LongestError::BadTimes);
     }
     let mut ends = [0u32; 8 * MOST_WIRES];
-    let wires = graph.link_count();
-    // The list is long enough, so every wire is written.
-    let _ = graph.list_wires(&mut ends);
-    let end = 8 * wires;
-    settling.settle(&ends[..end], times);
+    settling.settle(wires_in(graph, &mut ends), times);
     settling.sum_at(times, wide(block.0))
 }
 
 // The largest sum of times along wires ending at the block, its own time included. The list has a time in microseconds for each node slot.
-pub fn longest(graph: MultiPortGraph, block: NodeIndex, times: &[u16]) -> Result<u32, LongestError>
-    requires { MultiWf graph }
-    ensures { (result ≡ longest_of graph block.0 times.now) × (longest_numbers result ≡ longest_numbers (longest_of graph block.0 times.now)) }
+pub fn longest(graph: &MultiPortGraph, block: NodeIndex, times: &[u16]) -> Result<u32, LongestError>
+    requires { MultiWf graph.now }
+    ensures { (result ≡ longest_of graph.now block.0 times.now) × (longest_numbers result ≡ longest_numbers (longest_of graph.now block.0 times.now)) }
 {
     let mut settling = Settling::new();
     settle_graph(&mut settling, graph, block, times)
@@ -50,14 +47,14 @@ pub fn longest(graph: MultiPortGraph, block: NodeIndex, times: &[u16]) -> Result
 // Lists a path that has the largest sum, from its first block to the one named, at the start of a list that the caller lends: 1,024 numbers
 // are enough. A list that is too short for the path stays as it is.
 pub fn path(
-    graph: MultiPortGraph,
+    graph: &MultiPortGraph,
     block: NodeIndex,
     times: &[u16],
     list: &mut [u32],
 ) -> Result<PathListed, LongestError>
-    requires { MultiWf graph }
-    ensures { (result ≡ path_listed graph block.0 times.now) × (list.new ≡ path_after graph block.0 times.now list.old)
-        × (longest_numbers (sum_of result) ≡ longest_numbers (longest_of graph block.0 times.now)) }
+    requires { MultiWf graph.now }
+    ensures { (result ≡ path_listed graph.now block.0 times.now) × (list.new ≡ path_after graph.now block.0 times.now list.old)
+        × (longest_numbers (sum_of result) ≡ longest_numbers (longest_of graph.now block.0 times.now)) }
 {
     let mut settling = Settling::new();
     let sum = settle_graph(&mut settling, graph, block, times)?;

@@ -7,7 +7,8 @@ ghost use Rattle.timing.specs.RunOrder.{run_order};
 ghost use Rattle.timing.specs.Naming.{marked, named, all_forward};
 ghost use Rattle.timing.specs.Settling.{feeds_listed};
 
-use crate::tables::{at, source_of, target_of};
+use crate::tables::{source_of, target_of, wires_in};
+use files::ranks::at;
 use multiportgraph::multiportgraph::MultiPortGraph;
 use port_tables::index::{MOST_WIRES, NODE_SLOTS};
 use port_tables::numbers::wide;
@@ -38,24 +39,18 @@ fn name_all(order: &[u32], places: &mut [u32]) -> bool
     true
 }
 
-// Whether every wire goes from an earlier to a later place. Stays a loop: of what `all` says over chunks the library has no lemma, and the proof with it did not close.
+// Whether every wire goes from an earlier to a later place.
 fn all_forward<'a>(ends: &'a [u32], places: &'a [u32]) -> bool
     ensures { result ≡ all_forward places.now (feeds_listed ends.now) }
 {
-    for wire in ends.chunks_exact(8) {
-        let source = at(places, wide(source_of(wire)));
-        let target = at(places, wide(target_of(wire)));
-        if target <= source {
-            return false;
-        }
-    }
-    true
+    ends.chunks_exact(8).all(|wire| at(places, wide(source_of(wire)))
+        < at(places, wide(target_of(wire))))
 }
 
 // Whether the order names each block once and nothing else, and every wire goes from an earlier to a later one.
-pub fn run_order(graph: MultiPortGraph, order: &[u32]) -> bool
-    requires { MultiWf graph }
-    ensures { result ≡ run_order graph order.now }
+pub fn run_order(graph: &MultiPortGraph, order: &[u32]) -> bool
+    requires { MultiWf graph.now }
+    ensures { result ≡ run_order graph.now order.now }
 {
     let blocks = graph.node_count();
     if order.len() != blocks {
@@ -65,15 +60,11 @@ pub fn run_order(graph: MultiPortGraph, order: &[u32]) -> bool
     let mut ends = [0u32; 8 * MOST_WIRES];
     // Of a slot with a block 1, then its place in the order, two higher. Stays numbers: all_forward compares them as they are, and an enum would be matched there.
     let mut places = [0u32; NODE_SLOTS];
-    let wires = graph.link_count();
-    // Both lists are long enough.
+    // The list is long enough, so every block is written.
     let _ = graph.list_blocks(&mut listed);
-    let _ = graph.list_wires(&mut ends);
-    let block_end = 4 * blocks;
-    let wire_end = 8 * wires;
-    mark_blocks(&listed[..block_end], &mut places);
+    mark_blocks(&listed[..4 * blocks], &mut places);
     if !name_all(order, &mut places) {
         return false;
     }
-    all_forward(&ends[..wire_end], &places)
+    all_forward(wires_in(graph, &mut ends), &places)
 }

@@ -4,7 +4,7 @@ ghost use Rattle.port_tables.specs.Limits.{node_slots};
 ghost use Rattle.multiportgraph.specs.Listed.{list_after};
 ghost use Rattle.timing.specs.Settling.{path_back};
 
-use crate::tables::at;
+use files::ranks::at;
 use port_tables::index::NODE_SLOTS;
 use port_tables::numbers::wide;
 use port_tables::tables::store;

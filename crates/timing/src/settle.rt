@@ -6,7 +6,8 @@ ghost use Rattle.port_tables.specs.Lists.{range};
 ghost use Rattle.timing.specs.Settling.{feeds_listed, zeros, waits_of, firsts_of, unsettled, with_order, pushed, push_ready, raised, wire_done, run_done, block_done, Bounded, settled, sum_at};
 
 use crate::answers::LongestError;
-use crate::tables::{at, source_of, target_of, time_at};
+use crate::tables::{source_of, target_of, time_at};
+use files::ranks::at;
 use port_tables::index::NODE_SLOTS;
 use port_tables::numbers::wide;
 use port_tables::tables::store;

@@ -1,12 +1,22 @@
 // Leaves on lent tables, and on listings of wires with eight numbers each.
 ghost use Rattle.std.specs.Prelude.{◌≡◌, ◌+◌, ◌*◌, ◌/◌, ◌<◌, length, get_or};
+ghost use Rattle.multiportgraph.specs.Listed.{wires_listed};
+ghost use Rattle.multiportgraph.specs.WellFormed.{MultiWf};
 
-// A table's entry; 0 outside. Stays a number: the definitions read 0 there, so each caller would turn an Option into it.
-// Stays beside the one of `files`: `at` of the tables' crate is of a table with an entry for each port slot, and these lists are of other lengths.
-pub(crate) fn at(table: &[u32], i: usize) -> u32
-    ensures { result ≡ get_or table.now i 0 }
+use multiportgraph::multiportgraph::MultiPortGraph;
+use port_tables::index::MOST_WIRES;
+
+// The wires of a graph, in a list that is lent to be written: the part that is.
+pub(crate) fn wires_in<'a>(
+    graph: &'a MultiPortGraph,
+    ends: &'a mut [u32; 8 * MOST_WIRES],
+) -> &'a [u32]
+    requires { MultiWf graph.now }
+    ensures { result.now ≡ wires_listed graph.now }
 {
-    table.get(i).copied().unwrap_or(0)
+    // The list is long enough, so every wire is written.
+    let _ = graph.list_wires(ends);
+    &ends[..8 * graph.link_count()]
 }
 
 // The block that a wire comes from, of the eight numbers of one.

@@ -1,7 +1,5 @@
 // One command on the graph, and the lines that answer it.
-ghost use Rattle.std.specs.Prelude.{◌<◌};
 ghost use Rattle.multiportgraph.specs.WellFormed.{MultiWf};
-ghost use Rattle.lines.specs.Orders.{most_numbers};
 
 use crate::help::show_help;
 use crate::sheet::link_pairs;
@@ -10,7 +8,7 @@ use console_parts::cuts::{show_cut, show_link};
 use console_parts::fetch::load_from;
 use console_parts::listing::list;
 use console_parts::merging::merge_as;
-use console_parts::orders::{Command, Order};
+use console_parts::orders::{Command, Order, node_at, port_at, subport_at};
 use console_parts::replies::{show_answer, show_count};
 use console_parts::resize::resize_block;
 use console_parts::store::save_as;
@@ -18,9 +16,7 @@ use console_parts::tidy::tidy;
 use console_parts::whole::{list_blocks, list_wires, with_places, with_wire};
 use lines::named::release_of;
 use lines::show::write_bytes;
-use multi_tables::answers::SubportIndex;
 use multiportgraph::multiportgraph::MultiPortGraph;
-use port_tables::index::{NodeIndex, PortIndex};
 use records::ask::{answer, cut_port, cut_subport, empty, link_clean};
 use records::requests::Ask;
 use std::fs::Files;
@@ -35,31 +31,12 @@ fn request(rt: &impl Print, graph: MultiPortGraph, asked: Ask, values: usize) ->
     told.graph
 }
 
-// The node and the port that a number of an order names, and the subport that two of its numbers do.
-fn node(order: Order) -> NodeIndex {
-    NodeIndex(order.number(0))
-}
-
-fn port(order: Order, place: usize) -> PortIndex {
-    PortIndex(order.number(place))
-}
-
-fn subport(order: Order, place: usize) -> SubportIndex
-    requires { place < most_numbers }
-{
-    SubportIndex {
-        port: port(order, place),
-        subport_offset: order.offset(place + 1),
-    }
-}
-
 fn link_cleanly(rt: &impl Print, graph: MultiPortGraph, order: Order) -> MultiPortGraph
     requires { MultiWf graph }
     ensures { MultiWf result }
 {
     let told = link_clean(graph, order.number(0), order.number(1));
-    let answer = told.answer;
-    show_answer(rt, answer, 4);
+    show_answer(rt, told.answer, 4);
     told.graph
 }
 
@@ -72,7 +49,7 @@ fn begin(rt: &impl Print, order: Order) -> MultiPortGraph
 }
 
 // A command that changes the graph, or asks for what a request asks; the text is that of its line.
-// Stay three parameters: a struct of them would lend the graph for as long as the order is read.
+// Stay three parameters: a struct of them would be made in one place, and taken apart by each arm.
 pub(crate) fn run(
     rt: &(impl Files + Print),
     graph: MultiPortGraph,
@@ -88,33 +65,40 @@ pub(crate) fn run(
         Command::Sheet => link_pairs(rt, graph, order, text),
         Command::Load => load_from(rt, graph, order, text),
         Command::New => begin(rt, order),
-        Command::Remove => request(rt, graph, Ask::Remove(node(order)), 0),
+        Command::Remove => request(rt, graph, Ask::Remove(node_at(order, 0)), 0),
         Command::Add => request(rt, graph, Ask::Add(order.number(0), order.number(1)), 2),
         Command::Unlink => show_cut(rt, cut_port(graph, order.number(0))),
         Command::UnlinkSub => { show_cut(rt, cut_subport(graph, order.number(0), order.offset(1))) }
         Command::Counts => request(rt, graph, Ask::Counts, 3),
-        Command::Link => { request(rt, graph, Ask::Link(port(order, 0), port(order, 1)), 4) }
+        Command::Link => {
+            request(
+                rt,
+                graph,
+                Ask::Link(port_at(order, 0), port_at(order, 1)),
+                4,
+            )
+        }
         Command::LinkSub => {
-            let asked = Ask::LinkSubports(subport(order, 0), subport(order, 2));
+            let asked = Ask::LinkSubports(subport_at(order, 0), subport_at(order, 2));
             request(rt, graph, asked, 4)
         }
         Command::LinkClean => link_cleanly(rt, graph, order),
         Command::Tidy => tidy(rt, graph, order),
         _ => {
-            look(rt, graph, order, text);
+            look(rt, &graph, order, text);
             graph
         }
     }
 }
 
 // A command that looks at the graph.
-fn look(rt: &(impl Files + Print), graph: MultiPortGraph, order: Order, text: &[u8])
-    requires { MultiWf graph }
+fn look(rt: &(impl Files + Print), graph: &MultiPortGraph, order: Order, text: &[u8])
+    requires { MultiWf graph.now }
 {
     match order.command {
         Command::SubLink => show_link(rt, graph, order),
-        Command::FanOut => show_count(rt, graph.port_fan_out(port(order, 0))),
-        Command::BlockFanOut => show_count(rt, graph.node_fan_out(node(order))),
+        Command::FanOut => show_count(rt, graph.port_fan_out(port_at(order, 0))),
+        Command::BlockFanOut => show_count(rt, graph.node_fan_out(node_at(order, 0))),
         Command::Save => save_as(rt, graph, order, text),
         Command::Merge => merge_as(rt, order, text),
         Command::Help => show_help(rt),

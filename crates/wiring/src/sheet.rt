@@ -8,17 +8,15 @@ use lines::text::{Span, next_word, number_or_zero};
 use multiportgraph::multiportgraph::MultiPortGraph;
 use port_tables::index::PortIndex;
 use records::answers::link_words;
-use sheets::sheet::{SHEET_ENTRIES, SheetEntry, link_sheet};
-
-// One place more than a sheet has entries, so that a sheet that is too long can be handed in.
-const SHEET_PLACES: usize = SHEET_ENTRIES + 1;
+use sheets::held::SHEET_PLACES;
+use sheets::sheet::{SheetEntry, link_sheet};
 
 // The port that a word names.
 fn port_of(text: &[u8], word: Span) -> PortIndex {
     PortIndex(number_or_zero(text, word))
 }
 
-// The entries of a line from a place on.
+// The entries of a line from a place on. Stays beside that of a sketch's sheet and the numbers of a run order: what is read is each one's own, and the rest is three lines.
 fn put_entries(sheet: &mut [SheetEntry], text: &[u8], from: usize) {
     let mut at = from;
     for entry in sheet {
@@ -29,7 +27,7 @@ fn put_entries(sheet: &mut [SheetEntry], text: &[u8], from: usize) {
     }
 }
 
-// The pairs of a line are linked, one after the other.
+// The pairs of a line are linked, one after the other. Stays in both consoles, as the entries do: the call and the answers are each one's own.
 pub(crate) fn link_pairs(
     rt: &impl Print,
     graph: MultiPortGraph,
@@ -45,8 +43,7 @@ pub(crate) fn link_pairs(
     let sheet = &mut places[..order.entries.min(SHEET_PLACES)];
     put_entries(sheet, text, order.from);
     let linked = link_sheet(graph, sheet);
-    let answer = linked.answer;
-    match answer {
+    match linked.answer {
         Ok(()) => {
             for entry in sheet.iter() {
                 show_item(rt, link_words(entry.answer), 4);

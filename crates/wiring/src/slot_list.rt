@@ -16,8 +16,8 @@ fn show_block(rt: &impl Print, block: SlotBlock) {
 }
 
 // The command that lists them.
-pub(crate) fn show_slots(rt: &impl Print, graph: MultiPortGraph)
-    requires { MultiWf graph }
+pub(crate) fn show_slots(rt: &impl Print, graph: &MultiPortGraph)
+    requires { MultiWf graph.now }
 {
     let none = SlotBlock {
         first: 0,

@@ -2,12 +2,12 @@
 ghost use Rattle.multiportgraph.specs.WellFormed.{MultiWf};
 
 use crate::commands::run;
-use console_parts::orders::{Command, Order};
+use console_parts::orders::{Command, Order, node_at};
 use console_parts::replies::{Reason, show_refusal, show_refusal_number};
 use lines::show::{Line, show_number, write_bytes};
 use lines::text::{next_word, number_or_zero};
 use multiportgraph::multiportgraph::MultiPortGraph;
-use port_tables::index::{NODE_SLOTS, NodeIndex};
+use port_tables::index::NODE_SLOTS;
 use port_tables::numbers::wide;
 use std::fs::Files;
 use timing::answers::LongestError;
@@ -20,10 +20,10 @@ const NAMED: usize = NODE_SLOTS + 1;
 // The time of a slot, both as the order says.
 fn set_time(rt: &impl Print, times: &mut [u16; NODE_SLOTS], order: Order) {
     let slot = wide(order.number(0));
-    if slot < NODE_SLOTS
+    if let Some(place) = times.get_mut(slot)
         && let Ok(time) = u16::try_from(order.number(1))
     {
-        times[slot] = time;
+        *place = time;
     }
     write_bytes(rt, b"ok\n");
 }
@@ -43,11 +43,11 @@ fn show_block(rt: &impl Print, block: u32, times: &[u16]) {
     Line::of(b" ").number(block).number(time).write(rt);
 }
 
-fn show_path(rt: &impl Print, graph: MultiPortGraph, order: Order, times: &[u16; NODE_SLOTS])
-    requires { MultiWf graph }
+fn show_path(rt: &impl Print, graph: &MultiPortGraph, order: Order, times: &[u16; NODE_SLOTS])
+    requires { MultiWf graph.now }
 {
     let mut blocks = [0u32; NODE_SLOTS];
-    match path(graph, NodeIndex(order.number(0)), times, &mut blocks) {
+    match path(graph, node_at(order, 0), times, &mut blocks) {
         Ok(found) => {
             for block in blocks.iter().take(found.blocks) {
                 show_block(rt, *block, times);
@@ -67,8 +67,8 @@ fn put_numbers(numbers: &mut [u32; NAMED], text: &[u8], from: usize) {
     }
 }
 
-fn show_run_order(rt: &impl Print, graph: MultiPortGraph, order: Order, text: &[u8])
-    requires { MultiWf graph }
+fn show_run_order(rt: &impl Print, graph: &MultiPortGraph, order: Order, text: &[u8])
+    requires { MultiWf graph.now }
 {
     let mut numbers = [0u32; NAMED];
     put_numbers(&mut numbers, text, order.from);
@@ -89,22 +89,11 @@ pub(crate) fn run_timed(
     ensures { MultiWf result }
 {
     match order.command {
-        Command::Time => {
-            set_time(rt, times, order);
-            graph
-        }
-        Command::Longest => {
-            show_sum(rt, longest(graph, NodeIndex(order.number(0)), times));
-            graph
-        }
-        Command::Path => {
-            show_path(rt, graph, order, times);
-            graph
-        }
-        Command::RunOrder => {
-            show_run_order(rt, graph, order, text);
-            graph
-        }
-        _ => run(rt, graph, order, text),
+        Command::Time => set_time(rt, times, order),
+        Command::Longest => show_sum(rt, longest(&graph, node_at(order, 0), times)),
+        Command::Path => show_path(rt, &graph, order, times),
+        Command::RunOrder => show_run_order(rt, &graph, order, text),
+        _ => return run(rt, graph, order, text),
     }
+    graph
 }

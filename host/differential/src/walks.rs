@@ -99,7 +99,6 @@ mod linked {
             block: u32,
             rounds: usize,
         ) -> u64;
-        fn run_values(requests: *const u8, len: usize, answers: *mut u8, room: usize) -> u32;
     }
 
     /// Runs records and then lists all wires so often, eight numbers each; gives how many there are.
@@ -115,14 +114,7 @@ mod linked {
         // SAFETY: slices cross as pointer and length; nothing is written.
         unsafe { longest_again(words.as_ptr(), words.len(), records.len(), times.as_ptr(), times.len(), block, rounds) }
     }
-
-    /// Runs a list by the calls that take the graph by value.
-    pub fn run_by_value(requests: &[u8], answers: &mut [u8]) {
-        // SAFETY: slices cross as pointer and length; only the answers are written.
-        let returned = unsafe { run_values(requests.as_ptr(), requests.len(), answers.as_mut_ptr(), answers.len()) };
-        assert_eq!(returned, 0);
-    }
 }
 
 #[cfg(walks)]
-pub use linked::{list_port, longest_port, run_by_value};
+pub use linked::{list_port, longest_port};

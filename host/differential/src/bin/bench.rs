@@ -258,8 +258,8 @@ fn growth(table: &Table) {
 }
 
 #[cfg(walks)]
-fn by_value() {
-    use differential::walks::{forward, list_original, list_port, longest_original, longest_port, run_by_value, wired};
+fn by_walks() {
+    use differential::walks::{forward, list_original, list_port, longest_original, longest_port, wired};
 
     println!("\n| 400 wires listed | ns a wire | Rust, ns | ratio |\n|---|---|---|---|");
     for (name, outputs) in [("each at an output of its own", 20), ("four at each output", 5)] {
@@ -298,14 +298,10 @@ fn by_value() {
         println!("\n| The largest sum | blocks, wires | us | Rust, us | ratio |\n|---|---|---|---|---|");
         println!("| every slot taken | 1024, {} | {ours:.1} | {theirs:.1} | {:.2} |", graph.link_count(), ours / theirs);
     }
-    println!("\n| List, run by value | ns a call |\n|---|---|");
-    for list in (0..LISTS).map(|list| benchmark(list, CALLS)) {
-        println!("| {} | {:.0} |", list.name, a_call(&list, run_by_value, port)[0]);
-    }
 }
 
 #[cfg(not(walks))]
-fn by_value() {
+fn by_walks() {
     println!(
         "\nWithout libwalks.a: `bash host/bench.sh` has it built, and then the listing of all wires is measured too."
     );
@@ -337,7 +333,7 @@ fn main() {
             the_entry();
             files();
             loads();
-            by_value();
+            by_walks();
             tables().iter().for_each(growth);
         }
         [side, list, times] => {

@@ -7,8 +7,8 @@ use Rattle.records.specs.Words.{requests_of}
 use Rattle.records.specs.Run.{graph_from}
 use Rattle.exports.proofs.left.run_left.Goals as goal
 
-pub run_tables-requires : goal.run_tables-requires
-run_tables-requires c = subst MultiWf (sym c.requires) (empty_kept _)
+pub run_on-requires : goal.run_on-requires
+run_on-requires c = subst MultiWf (sym c.requires) (empty_kept _)
 
 pub returns : goal.returns
-returns c = (c.run_tables.ensures.0 ∙ ap (λ (g : MultiPortGraph). graph_from g (requests_of c.args.requests.now)) c.requires, c.run_tables.ensures.1)
+returns c = (c.run_on.ensures.0 ∙ ap (λ (g : MultiPortGraph). graph_from g (requests_of c.args.requests.now)) c.requires, c.run_on.ensures.1)

@@ -8,5 +8,5 @@ returns-then-requests-ne0 c = save_odd c.args.requests.now c.args.file.now c.if-
 
 pub returns : goal.returns
 returns c =
-    let d = save_done c.args.requests.now c.args.file.now _ _ _ c.if-requests-ne0.false c.run_left.ensures.0 c.save_lent.ensures in
+    let d = save_done c.args.requests.now c.args.file.now _ _ _ c.if-requests-ne0.false c.run_left.ensures.0 c.save.ensures in
     (c.save_told.ensures ∙ d.0, d.1)

@@ -5,7 +5,6 @@ use Prim.Native.Nat.{◌≤◌}
 use Rattle.port_tables.specs.Limits.{node_slots}
 use Rattle.multiportgraph.specs.WellFormed.{MultiWf}
 use Rattle.theorems.proofs.CallLaws.{empty_kept}
-use Rattle.std.proofs.lemmas.Result.{MatchResult-weaker}
 use Rattle.files.specs.Layout.{unbytes}
 use Rattle.files.specs.BuildSteps.{err_says, blocks_fit_table, built_blocks, stopped_wires, built_wires}
 use Rattle.files.proofs.load.build_over.Goals as goal
@@ -30,8 +29,8 @@ fill_firsts-requires c = few (goal.at.fill_firsts-requires c).In_ok-add_blocks
 pub invariant_of-ports : goal.invariant_of-ports
 invariant_of-ports c = record { told = c.fill_firsts.ensures; few = few (goal.at.invariant_of-ports c).In_ok-add_blocks }
 
+pub returns-in_err-link_wires : goal.returns-in_err-link_wires
+returns-in_err-link_wires c = err_says _ _ _ c.from_residual-in_err-link_wires.ensures.1 (stopped_wires c.args.release (unbytes c.args.file.bytes.now) c.requires c.in_ok-add_blocks.ensures c.in_err-link_wires.ensures)
+
 pub returns : goal.returns
-returns c =
-    let view = unbytes c.args.file.bytes.now in
-    MatchResult-weaker c.link_wires.result c.link_wires.ensures (λ t b. built_wires c.args.release view c.requires c.in_ok-add_blocks.ensures b)
-    (λ e h. stopped_wires c.args.release view c.requires c.in_ok-add_blocks.ensures h)
+returns c = built_wires c.args.release (unbytes c.args.file.bytes.now) c.requires c.in_ok-add_blocks.ensures c.in_ok-link_wires.ensures

@@ -4,11 +4,11 @@ use Rattle.files.specs.LoadForms.{Laid}
 use Rattle.files.specs.MergeSteps.{first_unlaid, second_unlaid}
 use Rattle.files.proofs.merge.merge.Goals as goal
 
-pub returns-in_err-one : goal.returns-in_err-one
-returns-in_err-one c = first_unlaid c.args.first.now c.args.second.now c.args.buffer.now c.in_err-one.ensures c.from_residual.ensures.1
+pub returns-in_err-laid : goal.returns-in_err-laid
+returns-in_err-laid c = first_unlaid c.args.first.now c.args.second.now c.args.buffer.now c.in_err-laid.ensures c.from_residual.ensures.1
 
-pub returns-in_err-two : goal.returns-in_err-two
-returns-in_err-two c =
-    let one = c.in_ok-one.one in
-    let laid = subst (λ b. Laid b one.shape.blocks one.shape.wires) c.in_ok-one.ensures one.laid in
-    second_unlaid c.args.first.now c.args.second.now c.args.buffer.now laid c.in_err-two.ensures c.from_residual-in_err-two.ensures.1
+pub returns-in_err-laid-2 : goal.returns-in_err-laid-2
+returns-in_err-laid-2 c =
+    let one = c.in_ok-laid.field-0 in
+    let laid = subst (λ b. Laid b one.shape.blocks one.shape.wires) c.in_ok-laid.ensures one.laid in
+    second_unlaid c.args.first.now c.args.second.now c.args.buffer.now laid c.in_err-laid-2.ensures c.from_residual-in_err-laid-2.ensures.1

@@ -9,8 +9,8 @@ use Rattle.files.specs.Forms.{number_of, block_turn}
 use Rattle.files.specs.TurnSteps.{turn_next, turns_end, parts_next, part_there, left_long, block_part}
 use Rattle.files.proofs.ranks.block_numbers.Goals as goal
 
-pub overflow_cast-record : goal.overflow_cast-record
-overflow_cast-record c =
+pub overflow_cast-block : goal.overflow_cast-block
+overflow_cast-block c =
     let k = c.in-Some.ensures.steps in
     let i = c.loop-i.invariant in
     let n = k.0.1.1 ∙ i.0 in
@@ -18,8 +18,8 @@ overflow_cast-record c =
     let f = c.requires.1 (enumerate_count c.loop-i.i-iterator) (omega arith) in
     omega (arith, f.a, ap (λ (b : BlockPorts). b.incoming) (block_part i.1 _ _ k.0.1.0 n))
 
-pub overflow_cast-record-in-loop-i : goal.overflow_cast-record-in-loop-i
-overflow_cast-record-in-loop-i c =
+pub overflow_cast-block-in-loop-i : goal.overflow_cast-block-in-loop-i
+overflow_cast-block-in-loop-i c =
     let k = c.in-Some.ensures.steps in
     let i = c.loop-i.invariant in
     let n = k.0.1.1 ∙ i.0 in

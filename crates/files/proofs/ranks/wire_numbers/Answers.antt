@@ -3,8 +3,7 @@ use native.Mathlib.Omega.{arith}
 use mathlib.Core.Path.{ap, ◌∙◌, sym, subst}
 use lib.ListN.{set}
 use Rattle.files.specs.View.{RankWire}
-use Rattle.files.specs.Layout.{wire_record}
-use Rattle.files.specs.LayoutLaws.{FieldsFit}
+use Rattle.files.specs.Layout.{wire_record, FieldsFit}
 use Rattle.files.specs.Forms.{number_of, rank_read, wire_turn}
 use Rattle.files.specs.TurnSteps.{turn_next, turns_end, parts_next, part_there, left_long, wire_part}
 use Rattle.files.proofs.ranks.wire_numbers.Goals as goal

@@ -1,8 +1,8 @@
 -- `lines::text::number_of` meets its contract. Assumes nothing.
 use mathlib.Core.Path.{sym, ap, ◌∙◌}
 use Prim.Native.Nat.{ℕ, ◌+◌, ◌-◌}
-use Rattle.lines.specs.Text.{bytes_from, value_or_none}
-use Rattle.lines.specs.TextSteps.{with_digit, said_after, said_next, said_none}
+use Rattle.lines.specs.Text.{bytes_from, value_or_none, with_digit}
+use Rattle.lines.specs.TextSteps.{said_after, said_next, said_none}
 use Rattle.lines.proofs.text.number_of.Goals as goal
 
 pub returns-in_err-value : goal.returns-in_err-value

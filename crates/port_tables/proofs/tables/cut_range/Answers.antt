@@ -6,11 +6,11 @@ use Rattle.port_tables.specs.TableSteps.{cut_range_turn, cut_range_done, cut_cou
 use Rattle.port_tables.proofs.tables.cut_range.Goals as goal
 
 pub overflow_add-n : goal.overflow_add-n
-overflow_add-n c = omega (arith, link_count_at_most_one c.cut-far.result)
+overflow_add-n c = omega (arith, link_count_at_most_one c.cut.result)
 
 pub loop-k-preserved : goal.loop-k-preserved
 loop-k-preserved c =
-    (omega (arith, link_count_at_most_one c.cut-far.result), cut_range_turn _ _ c.loop-k-test.true _ _ _ c.cut-far.ensures.1 ∙ c.loop-k.invariant.1, cut_count_turn _ _ c.loop-k-test.true _ _ _ _ _ _ c.cut-far.ensures.0 c.cut-far.ensures.1 c.link_count-n.ensures ∙ c.loop-k.invariant.2)
+    (omega (arith, link_count_at_most_one c.cut.result), cut_range_turn _ _ c.loop-k-test.true _ _ _ c.cut.ensures.1 ∙ c.loop-k.invariant.1, cut_count_turn _ _ c.loop-k-test.true _ _ _ _ _ _ c.cut.ensures.0 c.cut.ensures.1 c.link_count-n.ensures ∙ c.loop-k.invariant.2)
 
 pub returns : goal.returns
 returns c =

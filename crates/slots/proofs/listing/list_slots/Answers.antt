@@ -1,8 +1,6 @@
--- `slots::listing::list_slots` meets its contract: that of the tables that the graph is stored in.
+-- `slots::listing::list_slots` meets its contract: the blocks of the single-link graph's tables are its blocks.
 use Rattle.slots.specs.LaySteps.{listed_of}
 use Rattle.slots.proofs.listing.list_slots.Goals as goal
 
 pub returns : goal.returns
-returns c =
-    listed_of _ _ _ _ _ _ _ _ c.put.ensures.0
-    c.requires _ _ _ c.list_in.ensures
+returns c = listed_of c.args.graph.now.graph c.args.list.now _ _ (rw c.as_portgraph.ensures at c.list_in.ensures)

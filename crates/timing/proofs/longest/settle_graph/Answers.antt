@@ -1,20 +1,13 @@
 -- `timing::longest::settle_graph` meets its contract: 4 and 5, 19, or the answer over the listing of the graph's wires.
-use Prim.Native.Nat.{ℕ, ◌*◌}
-use lib.ListN.{length, take, replicate, length-replicate}
-use mathlib.Core.Path.{◌≡◌, sym, ◌∙◌, ap}
+use lib.ListN.{length}
+use mathlib.Core.Path.{refl, sym, ◌∙◌, ap}
 use native.Mathlib.Omega.{arith}
 use Rattle.files.specs.SaveSteps.{listed_wires}
-use Rattle.multiportgraph.specs.Listed.{wires_listed}
-use Rattle.timing.specs.AnswerSteps.{refused_told, refused_answer, found_below, found_answer, times_wrong, times_right, wires_short, wires_there, among_listed, settled_listed, answer_of_tables, ok_or_not}
+use Rattle.timing.specs.AnswerSteps.{refused_told, refused_answer, found_below, found_answer, times_wrong, times_right, among_listed, settled_listed, answer_of_tables, ok_or_not}
 use Rattle.timing.specs.FeedLaws.{feeds_fit}
 use Rattle.timing.specs.Longest.{feeds_in}
 use Rattle.timing.specs.Settling.{feeds_listed, sum_at}
 use Rattle.timing.proofs.longest.settle_graph.Goals as goal
-use Rattle.timing.proofs.longest.settle_graph.Goals.{After-list_wires}
-
--- what is lent is the listing of the graph's wires
-listing : (c : After-list_wires) → take (8 * c.link_count-wires.result) c.list_wires.new.list ≡ wires_listed c.args.graph
-listing c = wires_there c.requires.0.fine (replicate 12288 0) c.link_count-wires.ensures (length-replicate {A = ℕ} 12288 0) c.list_wires.ensures.1
 
 pub returns-in_err-node_port_capacity-clause-answer : goal.returns-in_err-node_port_capacity-clause-answer
 returns-in_err-node_port_capacity-clause-answer c =
@@ -22,17 +15,11 @@ returns-in_err-node_port_capacity-clause-answer c =
 
 pub returns-then-times-ne-NODE_SLOTS-clause-answer : goal.returns-then-times-ne-NODE_SLOTS-clause-answer
 returns-then-times-ne-NODE_SLOTS-clause-answer c =
-    times_wrong (feeds_in c.args.graph) c.args.times.now c.args.block.0 c.if-times-ne-NODE_SLOTS.true
+    times_wrong (feeds_in c.args.graph.now) c.args.times.now c.args.block.0 c.if-times-ne-NODE_SLOTS.true
     ∙ found_answer c.requires.0.fine c.args.block.0 c.args.times.now _ (sym c.in_ok-node_port_capacity.was ∙ c.node_port_capacity.ensures.0)
 
-pub overflow_mul-end : goal.overflow_mul-end
-overflow_mul-end c = let h = wires_short c.requires.0.fine c.link_count-wires.ensures in omega arith
-
-pub slice_bounds-ends-end : goal.slice_bounds-ends-end
-slice_bounds-ends-end c = let h = wires_short c.requires.0.fine c.link_count-wires.ensures in omega arith
-
-pub slice_bounds-settle-end : goal.slice_bounds-settle-end
-slice_bounds-settle-end c = (listed_wires c.requires.0.fine c.link_count-wires.result c.link_count-wires.ensures).0 ∙ sym (ap length (listing (goal.at.slice_bounds-settle-end c).After-list_wires))
+pub settle-requires : goal.settle-requires
+settle-requires c = let w = listed_wires c.requires.0.fine _ refl in (omega (arith, ap length c.wires_in.ensures, w.1), c.requires.1)
 
 pub returns-clause-answer : goal.returns-clause-answer
 returns-clause-answer c =
@@ -40,12 +27,12 @@ returns-clause-answer c =
     let n = c.args.block.0 in
     let times = c.args.times.now in
     let k = sym c.in_ok-node_port_capacity.was ∙ c.node_port_capacity.ensures.0 in
-    let l = listing (goal.at.returns-clause-answer c).After-list_wires in
+    let l = c.wires_in.ensures in
     c.sum_at.ensures
     ∙ (ap (sum_at c.settle.new.self times) c.wide.ensures
     ∙ (answer_of_tables (feeds_listed _) times n (feeds_fit f _ l) (found_below f n times _ k) c.settle.ensures.tables
-    ∙ (among_listed f times n l ∙ (times_right (feeds_in c.args.graph) times n c.if-times-ne-NODE_SLOTS.false ∙ found_answer f n times _ k))))
+    ∙ (among_listed f times n l ∙ (times_right (feeds_in c.args.graph.now) times n c.if-times-ne-NODE_SLOTS.false ∙ found_answer f n times _ k))))
 
 pub returns-clause-walked : goal.returns-clause-walked
 returns-clause-walked c =
-    ok_or_not c.sum_at.result (c.settle.ensures.tables ∙ settled_listed c.requires.0.fine c.args.times.now (listing (goal.at.returns-clause-walked c).After-list_wires))
+    ok_or_not c.sum_at.result (c.settle.ensures.tables ∙ settled_listed c.requires.0.fine c.args.times.now c.wires_in.ensures)

@@ -5,5 +5,5 @@ use Rattle.multi_tables.proofs.marks.Recount.unmark_new.Goals as goal
 pub returns : goal.returns
 returns c =
     new_unmarked c.args.marks.now c.args.self.before c.args.self.after
-    c.wide-first.ensures c.from-new_in.ensures c.from-new_out.ensures c.from.ensures c.min-kept_in.ensures c.from-2.ensures c.min-kept_out.ensures
+    c.first-first.ensures c.incoming-new_in.ensures c.outgoing-new_out.ensures c.incoming.ensures c.min-kept_in.ensures c.outgoing.ensures c.min-kept_out.ensures
     c.unmark.ensures c.unmark-2.ensures

@@ -15,4 +15,4 @@ pub returns-then-not-passes : goal.returns-then-not-passes
 returns-then-not-passes c = (end_passed c.args.self.links.now c.args.self.owners.now c.args.self.flags.now (λ w. passes_in c.args.self.owners.now c.args.self.flags.now c.args.only w.to.port.0) (subport# c.args.port c.args.offset) c.args.slot _ c.wire_end_in.ensures c.in_ok-to.was (sym c.passes.ensures ∙ c.if-not-passes.true), refl)
 
 pub returns : goal.returns
-returns c = (end_given c.args.self.links.now c.args.self.owners.now c.args.self.flags.now (λ w. passes_in c.args.self.owners.now c.args.self.flags.now c.args.only w.to.port.0) (subport# c.args.port c.args.offset) c.args.slot _ c.wire_end_in.ensures c.in_ok-to.was _ c.place_in.ensures (sym c.passes.ensures ∙ c.if-not-passes.false), refl)
+returns c = rw c.new_multi.ensures (end_given c.args.self.links.now c.args.self.owners.now c.args.self.flags.now (λ w. passes_in c.args.self.owners.now c.args.self.flags.now c.args.only w.to.port.0) (subport# c.args.port c.args.offset) c.args.slot _ c.wire_end_in.ensures c.in_ok-to.was _ c.place_in.ensures (sym c.passes.ensures ∙ c.if-not-passes.false), refl)

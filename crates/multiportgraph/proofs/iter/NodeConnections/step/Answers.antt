@@ -6,4 +6,4 @@ use Rattle.multiportgraph.specs.LinkWalkSteps.{connections_item_lem}
 use Rattle.multiportgraph.proofs.iter.NodeConnections.step.Goals as goal
 
 pub returns : goal.returns
-returns c = with_numbers node_connections_values (connections_item_lem c.args.graph c.args.self _ (sym c.contains_node.ensures ∙ c.if-not-contains_node.false) c.next_of_block.ensures.0 _ _ c.in_ok-link.was c.held_at.ensures)
+returns c = with_numbers node_connections_values (connections_item_lem c.args.graph.now c.args.self _ (sym c.contains_node.ensures ∙ c.if-not-contains_node.false) c.next_of_block.ensures.0 _ _ c.in_ok-link.was c.held_at.ensures)

@@ -9,4 +9,4 @@ use Rattle.multi_tables.specs.NamedEndSteps.{ok_told}
 use Rattle.multiportgraph.proofs.iter.NodeSubports.step.Goals as goal
 
 pub returns : goal.returns
-returns c = with_numbers node_subports_values (subports_item_lem c.args.graph c.args.self c.requires _ (sym c.block.ensures ∙ ok_told _ _ c.ok.ensures.value c.in_ok-meta.was) (sym c.held_seen.ensures ∙ c.if-not-held_seen.false) _ _ _ c.ports_from-from.ensures c.ports_to.ensures (c.subport_beyond.ensures.0 ∙ read_off c.args.graph (λ a b o f. first_subport (subports_beyond a b o f c.ports_from-from.result c.ports_to.result c.args.self.held.port c.args.self.held.offset)) c.wire_tables.ensures) _ _ c.in_ok-subport.was c.held_at.ensures)
+returns c = with_numbers node_subports_values (subports_item_lem c.args.graph.now c.args.self c.requires _ (sym c.block.ensures ∙ ok_told _ _ c.ok.ensures.value c.in_ok-meta.was) (sym c.held_seen.ensures ∙ c.if-not-held_seen.false) _ _ _ c.ports_from-from.ensures c.ports_to.ensures (c.subport_beyond.ensures.0 ∙ read_off c.args.graph.now (λ a b o f. first_subport (subports_beyond a b o f c.ports_from-from.result c.ports_to.result c.args.self.held.port c.args.self.held.offset)) c.wire_tables.ensures) _ _ c.in_ok-subport.was c.held_at.ensures)

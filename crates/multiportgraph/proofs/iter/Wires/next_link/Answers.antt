@@ -10,14 +10,15 @@ use Rattle.multiportgraph.specs.WireSteps.{step_start, step_seen, step_on}
 use Rattle.multi_tables.specs.NamedEndSteps.{err_told, ok_told}
 use Rattle.multiportgraph.proofs.iter.Wires.next_link.Goals as goal
 
-pub returns-then-held-eq0 : goal.returns-then-held-eq0
-returns-then-held-eq0 c = (step_start c.args.graph c.requires c.args.self _ _ c.if-held-eq0.true (rw (c.default.ensures.0, c.default.ensures.1) at c.next_wire.ensures.0) refl, c.next_wire.ensures.1)
+pub returns-in_default : goal.returns-in_default
+returns-in_default c =
+    (step_start c.args.graph.now c.requires c.args.self _ _ (omega (arith, c.in_default.ensures)) (rw (c.default.ensures.0, c.default.ensures.1) at c.next_wire.ensures.0) refl, c.next_wire.ensures.1)
 
 pub returns-in_err-node : goal.returns-in_err-node
 returns-in_err-node c =
     let r = err_told _ c.ok.ensures.value c.in_err-node.was in
     rw c.from_residual.ensures
-    (sym (block_unseen c.args.graph (c.args.self.held.port - 1) (search rules) (wires_seen c.args.graph (c.args.self.held.port - 1) c.args.self.held.offset) None r.0 refl refl (sym c.block_port.ensures ∙ r.1)) ∙ step_seen c.args.graph c.requires c.args.self _ c.if-held-eq0.false refl, omega arith)
+    (sym (block_unseen c.args.graph.now (c.args.self.held.port - 1) (search rules) (wires_seen c.args.graph.now (c.args.self.held.port - 1) c.args.self.held.offset) None r.0 refl refl (rw c.in-Some.ensures.1 at (sym c.block_port.ensures ∙ r.1))) ∙ step_seen c.args.graph.now c.requires c.args.self _ (λ z. omega (arith, z, c.in-Some.ensures.0)) refl, omega arith)
 
 pub returns : goal.returns
-returns c = (step_on c.args.graph c.requires c.args.self _ _ _ _ _ c.if-held-eq0.false (block_is c.args.graph (c.args.self.held.port - 1) (search rules) _ _ (sym c.block_port.ensures ∙ ok_told _ _ c.ok.ensures.value c.in_ok-node.was)) c.wide.ensures c.next_wire-2.ensures.0 refl, c.next_wire-2.ensures.1)
+returns c = (step_on c.args.graph.now c.requires c.args.self _ _ _ _ _ (λ z. omega (arith, z, c.in-Some.ensures.0)) (block_is c.args.graph.now (c.args.self.held.port - 1) (search rules) _ _ (rw c.in-Some.ensures.1 at (sym c.block_port.ensures ∙ ok_told _ _ c.ok.ensures.value c.in_ok-node.was))) c.wide.ensures c.next_wire-2.ensures.0 refl, c.next_wire-2.ensures.1)

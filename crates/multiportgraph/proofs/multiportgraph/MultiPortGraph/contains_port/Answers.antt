@@ -7,4 +7,4 @@ use Rattle.multiportgraph.specs.StartSteps.{block_is_seen}
 use Rattle.multiportgraph.proofs.multiportgraph.MultiPortGraph.contains_port.Goals as goal
 
 pub returns : goal.returns
-returns c = c.is_ok.ensures.value ∙ (ap is_ok c.block_port.ensures ∙ (block_is_seen c.args.self c.args.port.0 (search rules) ∙ contains_at c.args.self c.args.port.0 _ refl))
+returns c = c.is_ok.ensures.value ∙ (ap is_ok c.block_port.ensures ∙ (block_is_seen c.args.self.now c.args.port.0 (search rules) ∙ contains_at c.args.self.now c.args.port.0 _ refl))

@@ -13,26 +13,26 @@ use Rattle.multiportgraph.proofs.multiportgraph.MultiPortGraph.copies_dropped.Go
 use Rattle.multiportgraph.proofs.multiportgraph.MultiPortGraph.copies_dropped.Goals.{After-copies_in-middle}
 
 -- the second side fits behind the first
-room : (c : After-copies_in-middle) → c.copies_in-middle.result + (c.from-old_out.result - c.kept_outgoing-kept_out.result) ≤ length c.copies_in-middle.new.list
+room : (c : After-copies_in-middle) → c.copies_in-middle.result + (c.outgoing-old_out.result - c.kept_outgoing-kept_out.result) ≤ length c.copies_in-middle.new.list
 room c =
-    let size = ap length c.copies_in-middle.ensures.1 ∙ length-sets c.args.list.now 0 (copies_in c.args.self (c.wide-first.result + c.kept_incoming-kept_in.result) (c.from-old_in.result - c.kept_incoming-kept_in.result)) in
-    omega (arith, c.from-old_in.ensures, c.from-old_out.ensures, c.copies_in-middle.ensures.2, size, c.requires.1, c.requires.0.small, c.requires.0.ports)
+    let size = ap length c.copies_in-middle.ensures.1 ∙ length-sets c.args.list.now 0 (copies_in c.args.self.now (c.first-first.result + c.kept_incoming-kept_in.result) (c.incoming-old_in.result - c.kept_incoming-kept_in.result)) in
+    omega (arith, c.incoming-old_in.ensures, c.outgoing-old_out.ensures, c.copies_in-middle.ensures.2, size, c.requires.1, c.requires.0.small, c.requires.0.ports)
 
 pub copies_in-requires : goal.copies_in-requires
 copies_in-requires c =
     let fits = room (goal.at.copies_in-requires c).After-copies_in-middle in
     let rest = length-drop c.copies_in-middle.result c.copies_in-middle.new.list in (
-      omega (arith, c.wide-first.ensures, c.from-old_in.ensures, c.from-old_out.ensures, c.kept_outgoing-kept_out.ensures, c.requires.0.ends, c.requires.0.ports),
+      omega (arith, c.first-first.ensures, c.incoming-old_in.ensures, c.outgoing-old_out.ensures, c.kept_outgoing-kept_out.ensures, c.requires.0.ends, c.requires.0.ports),
       rw (take_rest c.copies_in-middle.new.list c.copies_in-middle.result) (omega (arith, fits, rest)),
     )
 
 pub returns : goal.returns
 returns c =
     let fits = room (goal.at.returns c).After-copies_in-middle in
-    let part = copies_in c.args.self (c.wide-first.result + c.from-old_in.result + c.kept_outgoing-kept_out.result) (c.from-old_out.result - c.kept_outgoing-kept_out.result) in
-    dropped_listed c.args.self c.args.resize.meta c.args.resize.incoming c.args.resize.outgoing c.wide-first.result c.from-old_in.result c.from-old_out.result
+    let part = copies_in c.args.self.now (c.first-first.result + c.incoming-old_in.result + c.kept_outgoing-kept_out.result) (c.outgoing-old_out.result - c.kept_outgoing-kept_out.result) in
+    dropped_listed c.args.self.now c.args.resize.meta c.args.resize.incoming c.args.resize.outgoing c.first-first.result c.incoming-old_in.result c.outgoing-old_out.result
     c.kept_incoming-kept_in.result c.kept_outgoing-kept_out.result c.copies_in-middle.result _ c.args.list.now _ _
-    c.wide-first.ensures c.from-old_in.ensures c.from-old_out.ensures
+    c.first-first.ensures c.incoming-old_in.ensures c.outgoing-old_out.ensures
     c.kept_incoming-kept_in.ensures c.kept_outgoing-kept_out.ensures
     (omega (arith, c.copies_in-middle.ensures.0)) c.copies_in-middle.ensures.1
     (ap (λ (k : ℕ). c.copies_in-middle.result + k) c.copies_in.ensures.0)

@@ -1,39 +1,24 @@
--- `multiportgraph::multiportgraph::MultiPortGraph::grow` meets its contract: no room, and one subport more.
-
--- the hidden node as it is read
-use mathlib.Core.Path.{refl, ◌∙◌}
-use Prim.Native.Nat.{◌≤◌}
+-- `multiportgraph::multiportgraph::MultiPortGraph::grow` meets its contract: no room, and one more subport.
 use native.Mathlib.Omega.{arith}
-use Rattle.port_tables.specs.Limits.{port_slots}
-use Rattle.multi_tables.specs.TableReadSteps.{subports_bound}
-use Rattle.multiportgraph.specs.TableSteps.{Growing, counts_grown, growing_read, grow_full, grow_told, grow_done}
-use Rattle.multiportgraph.specs.GrowLaws.{GrowTables, by_first}
-use Rattle.multiportgraph.specs.Reading.{copy_node}
+use Rattle.multiportgraph.specs.PrepareSteps.{or_ok, or_err, few_subs}
+use Rattle.port_tables.specs.TableSteps.{passed_on}
+use Rattle.multiportgraph.specs.TableSteps.{grow_full, copy_low, grow_done}
+use Rattle.multiportgraph.specs.LinkMade.{grow_few}
 use Rattle.multiportgraph.proofs.multiportgraph.MultiPortGraph.grow.Goals as goal
-use Rattle.multiportgraph.proofs.multiportgraph.MultiPortGraph.grow.Goals.{After-hidden_copy-hidden, In-Ok}
 
-growing : (c : After-hidden_copy-hidden) → Growing c.args.self c.args.port.port c.args.port.side c.hidden_copy-hidden.result.copy c.hidden_copy-hidden.result.node c.hidden_copy-hidden.result.count
-growing c = growing_read c.requires refl c.hidden_copy-hidden.ensures.0 c.hidden_copy-hidden.ensures.1 c.hidden_copy-hidden.ensures.2
+pub returns-in_err-or : goal.returns-in_err-or
+returns-in_err-or c =
+    let e = or_err _ c.or.ensures c.in_err-or.was in
+    rw (passed_on c.from_residual.ensures.1, e.0) (grow_full c.requires c.num_ports-count.ensures c.hidden_counts-incoming.ensures c.set_num_ports_quiet_lent.ensures.0 c.set_num_ports_quiet_lent.ensures.1 e.1)
 
-count_fits : (c : After-hidden_copy-hidden) → c.hidden_copy-hidden.result.count ≤ port_slots
-count_fits c = let h = subports_bound c.args.self.graph.port_link c.args.self.graph.port_meta c.args.port.port c.args.port.side in omega arith
+pub overflow_add-self : goal.overflow_add-self
+overflow_add-self c = omega (arith, few_subs c.args.self.now c.requires.port.block.wf)
 
--- what one more subport does to the tables
-told : (c : In-Ok) → GrowTables c.args.self c.args.port.port c.args.port.side (copy_node c.args.self c.args.port.port) c.hidden_copy-hidden.result.count c.resized-sized.result.graph
-told c = grow_told (growing c.before.before.before.before.before) (counts_grown _ _ c.hidden_counts-incoming.ensures).0 (counts_grown _ _ c.hidden_counts-incoming.ensures).1 refl c.resized-sized.ensures c.in-Ok.is
-
-pub overflow_add-hidden : goal.overflow_add-hidden
-overflow_add-hidden c = let h = count_fits (goal.at.overflow_add-hidden c).After-hidden_copy-hidden in omega arith
-
-pub returns-in_default : goal.returns-in_default
-returns-in_default c =
-    grow_full (growing (goal.at.returns-in_default c).After-hidden_copy-hidden) (counts_grown _ _ c.hidden_counts-incoming.ensures).0 (counts_grown _ _ c.hidden_counts-incoming.ensures).1 refl c.resized-sized.ensures c.in_default.not-Ok
-
-pub grow_by-requires : goal.grow_by-requires
-grow_by-requires c = (c.requires.block.wf, let f = (told (goal.at.grow_by-requires c).In-Ok).few in omega arith)
+pub last_beside-requires : goal.last_beside-requires
+last_beside-requires c =
+    omega (arith, copy_low c.requires c.num_ports-count.ensures c.hidden_counts-incoming.ensures c.set_num_ports_quiet_lent.ensures.0 c.set_num_ports_quiet_lent.ensures.1 (or_ok _ _ c.or.ensures c.in_ok-or.was) c.wide-2.ensures (rw c.link_table-2.ensures at c.far_in-moved.ensures), grow_few c.requires, c.num_ports-count.ensures)
 
 pub returns : goal.returns
 returns c =
-    c.grow_by.ensures
-    ∙ grow_done (growing (goal.at.returns c).After-hidden_copy-hidden) (counts_grown _ _ c.hidden_counts-incoming.ensures).0 (counts_grown _ _ c.hidden_counts-incoming.ensures).1 refl c.resized-sized.ensures c.in-Ok.is
-    refl refl refl refl refl refl (by_first (told (goal.at.returns c).In-Ok) refl)
+    grow_done c.requires c.num_ports-count.ensures c.hidden_counts-incoming.ensures c.set_num_ports_quiet_lent.ensures.0 c.set_num_ports_quiet_lent.ensures.1 (or_ok _ _ c.or.ensures c.in_ok-or.was) c.wide-2.ensures (rw c.link_table-2.ensures at c.far_in-moved.ensures)
+    c.wide.ensures (rw c.link_table.ensures at c.far_in-copy.ensures) c.put_marks.ensures c.last_beside.ensures

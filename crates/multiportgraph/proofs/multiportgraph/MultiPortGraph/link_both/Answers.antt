@@ -1,25 +1,39 @@
--- `multiportgraph::multiportgraph::MultiPortGraph::link_both` meets its contract: both ends are prepared and linked, or there is no room.
-
--- the second port is still a block's
-use mathlib.Core.Path.{sym, ◌∙◌, ap}
-use Rattle.multiportgraph.specs.Cases.{link_second, link_live}
-use Rattle.multiportgraph.specs.HiddenNodes.{prepare}
-use Rattle.multiportgraph.specs.Presumed.{OnBlock}
-use Rattle.multiportgraph.specs.LinkSteps.{is_ready, others_stay, still_wf}
+-- `multiportgraph::multiportgraph::MultiPortGraph::link_both` meets its contract: the first end is ready, both are prepared, and no room.
+use Rattle.portgraph.specs.WfFacts.{node_len_fits, port_len_fits}
+use Rattle.multiportgraph.specs.PrepareSteps.{lower_wf}
+use Rattle.multiportgraph.specs.NeedLaws.{ready_for, grows_few, takes_small}
+use Rattle.multiportgraph.specs.LinkMade.{both_lack, both_first, both_need, both_done}
 use Rattle.multiportgraph.proofs.multiportgraph.MultiPortGraph.link_both.Goals as goal
-use Rattle.multiportgraph.proofs.multiportgraph.MultiPortGraph.link_both.Goals.{In-Some}
 
-second-stays : (c : In-Some) → OnBlock c.prepare-first.result.graph c.args.b.port c.args.b.side
-second-stays c = others_stay c.requires.first c.prepare-first.result c.prepare-first.ensures c.in-Some.is _ _ c.requires.second
+pub link_second-requires : goal.link_second-requires
+link_second-requires c =
+    (record { both = c.requires.0; is = ready_for c.requires.0.first c.need_of-one.ensures c.in-Ready.is }, c.need_of-two.ensures)
 
-pub prepare-second-requires : goal.prepare-second-requires
-prepare-second-requires c = second-stays (goal.at.prepare-second-requires c).In-Some
+pub takes_of-requires : goal.takes_of-requires
+takes_of-requires c = grows_few c.requires.0.first c.need_of-one.ensures
 
-pub link_prepared-requires : goal.link_prepared-requires
-link_prepared-requires c = still_wf (second-stays (goal.at.link_prepared-requires c).In-Some) c.prepare-second.result c.prepare-second.ensures c.in-Some-end.is
+pub takes_of-requires-2 : goal.takes_of-requires-2
+takes_of-requires-2 c = grows_few c.requires.0.second c.need_of-two.ensures
+
+pub room_for-requires : goal.room_for-requires
+room_for-requires c =
+    let w = lower_wf c.args.self.now c.requires.0.first.wf in
+    (node_len_fits _ w, port_len_fits _ w, takes_small c.need_of-one.result (grows_few c.requires.0.first c.need_of-one.ensures) c.takes_of.ensures, takes_small c.need_of-two.result (grows_few c.requires.0.second c.need_of-two.ensures) c.takes_of-2.ensures)
+
+pub returns-then-not-room_for : goal.returns-then-not-room_for
+returns-then-not-room_for c =
+    both_lack c.args.self.now c.requires.0 c.requires.1 c.need_of-one.ensures c.need_of-two.ensures c.takes_of.ensures c.takes_of-2.ensures c.room_for.ensures c.if-not-room_for.true
+
+pub prepare-requires : goal.prepare-requires
+prepare-requires c = (c.requires.0.first, c.need_of-one.ensures)
+
+pub link_second-requires-2 : goal.link_second-requires-2
+link_second-requires-2 c =
+    let t = c.in_ok-first.was in (
+      both_first c.args.self.now c.requires.0 c.requires.1 c.need_of-one.ensures c.need_of-two.ensures c.takes_of.ensures c.takes_of-2.ensures c.room_for.ensures c.if-not-room_for.false c.prepare.result c.prepare.ensures t,
+      both_need c.args.self.now c.requires.0 c.requires.1 c.need_of-one.ensures c.need_of-two.ensures c.takes_of.ensures c.takes_of-2.ensures c.room_for.ensures c.if-not-room_for.false c.prepare.result c.prepare.ensures t,
+    )
 
 pub returns : goal.returns
 returns c =
-    c.link_prepared.ensures
-    ∙ sym (ap (link_live c.args.self c.args.a.port c.args.a.side c.args.b.port c.args.b.side) (is_ready c.args.self (prepare c.args.self c.args.a.port c.args.a.side) c.prepare-first.result c.prepare-first.ensures c.in-Some.is)
-    ∙ ap (link_second c.args.self c.args.a.port c.args.a.side c.in-Some.x c.in-Some.o c.args.b.port c.args.b.side) (is_ready c.prepare-first.result.graph (prepare c.prepare-first.result.graph c.args.b.port c.args.b.side) c.prepare-second.result c.prepare-second.ensures c.in-Some-end.is))
+    both_done c.args.self.now c.requires.0 c.requires.1 c.need_of-one.ensures c.need_of-two.ensures c.takes_of.ensures c.takes_of-2.ensures c.room_for.ensures c.if-not-room_for.false c.prepare.result c.prepare.ensures c.in_ok-first.was c.link_second-2.ensures

@@ -4,8 +4,7 @@ use mathlib.Core.List.{List}
 use Prim.Native.Nat.{ℕ, zero, suc, ◌-◌, ◌≤◌}
 use native.Mathlib.Omega.{arith}
 use Rattle.port_tables.specs.Tables.{at}
-use Rattle.portgraph.specs.declared.portgraph.PortGraph.{PortGraph}
-use Rattle.multiportgraph.specs.Graph.{with_graph}
+use Rattle.portgraph.specs.declared.portgraph.PortsLinked.{PortsLinked}
 use Rattle.multi_tables.specs.TableReads.{far_in, first_in}
 use Rattle.multiportgraph.specs.TidySteps.{bare_wf, direct_none, direct_one}
 use Rattle.multiportgraph.specs.OwnTables.{read_off}
@@ -21,23 +20,23 @@ none zero n = refl
 none (suc h) n = absurd (n (omega arith))
 
 -- what the first subport holds
-held : (c : After-at-held) → c.at-held.result ≡ at c.args.self.graph.port_link c.first_in.result
-held c = c.at-held.ensures
+held : (c : After-at-held) → c.at-held.result ≡ at c.args.self.now.graph.port_link c.first_in.result
+held c = rw c.link_table.ensures at c.at-held.ensures
 
-first : (c : After-at-held) → c.first_in.result ≡ first_in c.args.self.graph.port_link c.args.self.graph.port_meta c.args.port.port c.args.port.side
-first c = c.first_in.ensures ∙ read_off c.args.self (λ a b o f. first_in b o c.args.port.port c.args.port.side) c.wire_tables.ensures
+first : (c : After-at-held) → c.first_in.result ≡ first_in c.args.self.now.graph.port_link c.args.self.now.graph.port_meta c.args.port.port c.args.port.side
+first c = c.first_in.ensures ∙ read_off c.args.self.now (λ a b o f. first_in b o c.args.port.port c.args.port.side) c.wire_tables.ensures
 
 pub returns-in_default : goal.returns-in_default
 returns-in_default c =
     let p = (goal.at.returns-in_default c).After-at-held in
-    direct_none c.requires (first p) (held p) c.drop_copy-bare.ensures (none _ (c.in_default.ensures))
+    direct_none c.requires (first p) (held p) c.unsplit.ensures (none _ (c.in_default.ensures))
 
-pub linked-bare-requires : goal.linked-bare-requires
-linked-bare-requires c = bare_wf c.requires c.drop_copy-bare.ensures
+pub link_ports_lent-requires : goal.link_ports_lent-requires
+link_ports_lent-requires c = bare_wf c.requires c.unsplit.ensures
 
-pub returns : goal.returns
-returns c =
-    let p = (goal.at.returns c).After-at-held in
+pub returns-in-Some : goal.returns-in-Some
+returns-in-Some c =
+    let p = (goal.at.returns-in-Some c).After-at-held in
     let e = c.in-Some.ensures in
-    ap (λ (g : PortGraph). with_graph c.drop_copy-bare.result g) c.linked-bare.ensures
-    ∙ direct_one c.requires (first p) (held p) (far_told _ _ _ _ (held p) e.1) c.drop_copy-bare.ensures (λ z. omega (arith, z, e.0)) refl
+    let linked : ◌≡◌ {A = PortsLinked} (record { graph = c.link_ports_lent.new.self; answer = c.link_ports_lent.result }) _ = λ i. record { graph = c.link_ports_lent.ensures.0 i; answer = c.link_ports_lent.ensures.1 i } in
+    direct_one c.requires (first p) (held p) (far_told _ _ _ _ (held p) e.1) c.unsplit.ensures (λ z. omega (arith, z, e.0)) linked

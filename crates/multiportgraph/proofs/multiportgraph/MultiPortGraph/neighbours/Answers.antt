@@ -8,7 +8,7 @@ use Rattle.multiportgraph.specs.StartSteps.{held_first, passed_told}
 use Rattle.multiportgraph.proofs.multiportgraph.MultiPortGraph.neighbours.Goals as goal
 
 pub returns-in_err-block : goal.returns-in_err-block
-returns-in_err-block c = passed_told neighbours_start_numbers _ c.from_residual.ensures.1 (ap (neighbours_from c.args.node c.args.sides c.args.ignore_self) (start_at c.args.self c.args.node.0 _ (sym c.block.ensures ∙ c.in_err-block.was)))
+returns-in_err-block c = passed_told neighbours_start_numbers _ c.from_residual.ensures.1 (ap (neighbours_from c.args.node c.args.sides c.args.ignore_self) (start_at c.args.self.now c.args.node.0 _ (sym c.block.ensures ∙ c.in_err-block.was)))
 
 pub returns : goal.returns
-returns c = rw (held_first c.default.ensures) (with_numbers neighbours_start_numbers (ap (neighbours_from c.args.node c.args.sides c.args.ignore_self) (start_at c.args.self c.args.node.0 _ (sym c.block.ensures ∙ c.in_ok-block.was))))
+returns c = rw (held_first c.default.ensures) (with_numbers neighbours_start_numbers (ap (neighbours_from c.args.node c.args.sides c.args.ignore_self) (start_at c.args.self.now c.args.node.0 _ (sym c.block.ensures ∙ c.in_ok-block.was))))

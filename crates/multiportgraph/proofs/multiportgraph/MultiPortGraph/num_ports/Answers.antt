@@ -7,7 +7,7 @@ use Rattle.multiportgraph.specs.StartSteps.{passed_told}
 use Rattle.multiportgraph.proofs.multiportgraph.MultiPortGraph.num_ports.Goals as goal
 
 pub returns-in_err-meta : goal.returns-in_err-meta
-returns-in_err-meta c = passed_told count_numbers _ c.from_residual.ensures.1 (ports_refused c.args.self c.args.node.0 c.args.direction _ (sym c.block.ensures ∙ c.in_err-meta.was))
+returns-in_err-meta c = passed_told count_numbers _ c.from_residual.ensures.1 (ports_refused c.args.self.now c.args.node.0 c.args.direction _ (sym c.block.ensures ∙ c.in_err-meta.was))
 
 pub returns : goal.returns
-returns c = with_numbers count_numbers (ports_counted c.args.self c.args.node.0 c.args.direction _ _ (sym c.block.ensures ∙ c.in_ok-meta.was) c.num_ports.ensures)
+returns c = with_numbers count_numbers (ports_counted c.args.self.now c.args.node.0 c.args.direction _ _ (sym c.block.ensures ∙ c.in_ok-meta.was) c.num_ports.ensures)

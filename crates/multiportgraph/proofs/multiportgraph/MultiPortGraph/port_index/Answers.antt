@@ -8,7 +8,7 @@ use Rattle.multiportgraph.specs.StartSteps.{passed_told}
 use Rattle.multiportgraph.proofs.multiportgraph.MultiPortGraph.port_index.Goals as goal
 
 pub returns-in_err-block : goal.returns-in_err-block
-returns-in_err-block c = passed_told port_numbers _ c.from_residual.ensures.1 (index_at c.args.self c.args.node.0 c.args.offset _ (port_index c.args.self.graph c.args.node.0 c.args.offset) (sym c.block.ensures ∙ c.in_err-block.was) refl)
+returns-in_err-block c = passed_told port_numbers _ c.from_residual.ensures.1 (index_at c.args.self.now c.args.node.0 c.args.offset _ (port_index c.args.self.now.graph c.args.node.0 c.args.offset) (sym c.block.ensures ∙ c.in_err-block.was) refl)
 
 pub returns : goal.returns
-returns c = with_numbers port_numbers (index_at c.args.self c.args.node.0 c.args.offset _ _ (sym c.block.ensures ∙ c.in_ok-block.was) c.port_index.ensures.0)
+returns c = with_numbers port_numbers (index_at c.args.self.now c.args.node.0 c.args.offset _ _ (sym c.block.ensures ∙ c.in_ok-block.was) c.port_index.ensures.0)

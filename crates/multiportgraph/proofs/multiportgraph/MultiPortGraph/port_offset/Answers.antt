@@ -8,7 +8,7 @@ use Rattle.multiportgraph.specs.StartSteps.{block_is, block_told, passed_told}
 use Rattle.multiportgraph.proofs.multiportgraph.MultiPortGraph.port_offset.Goals as goal
 
 pub returns-in_err-direction : goal.returns-in_err-direction
-returns-in_err-direction c = passed_told offset_numbers _ c.from_residual.ensures.1 (block_told c.args.self c.args.port.0 (search rules) (offset_seen c.args.self c.args.port.0) _ refl refl (sym c.block_port.ensures ∙ c.in_err-direction.was) ∙ offset_at c.args.self c.args.port.0 _ refl)
+returns-in_err-direction c = passed_told offset_numbers _ c.from_residual.ensures.1 (block_told c.args.self.now c.args.port.0 (search rules) (offset_seen c.args.self.now c.args.port.0) _ refl refl (sym c.block_port.ensures ∙ c.in_err-direction.was) ∙ offset_at c.args.self.now c.args.port.0 _ refl)
 
 pub returns : goal.returns
-returns c = with_numbers offset_numbers (offset_found c.args.self c.args.port.0 _ _ _ (block_is c.args.self c.args.port.0 (search rules) _ _ (sym c.block_port.ensures ∙ c.in_ok-direction.was)) c.position_of.ensures)
+returns c = with_numbers offset_numbers (offset_found c.args.self.now c.args.port.0 _ _ _ (block_is c.args.self.now c.args.port.0 (search rules) _ _ (sym c.block_port.ensures ∙ c.in_ok-direction.was)) c.position_of.ensures)

@@ -8,7 +8,7 @@ use Rattle.multiportgraph.specs.StartSteps.{passed_told}
 use Rattle.multiportgraph.proofs.multiportgraph.MultiPortGraph.ports.Goals as goal
 
 pub returns-in_err-block : goal.returns-in_err-block
-returns-in_err-block c = passed_told node_ports_start_numbers _ c.from_residual.ensures.1 (ap (node_ports_from c.args.node c.args.sides) (start_at c.args.self c.args.node.0 _ (sym c.block.ensures ∙ c.in_err-block.was)))
+returns-in_err-block c = passed_told node_ports_start_numbers _ c.from_residual.ensures.1 (ap (node_ports_from c.args.node c.args.sides) (start_at c.args.self.now c.args.node.0 _ (sym c.block.ensures ∙ c.in_err-block.was)))
 
 pub returns : goal.returns
-returns c = with_numbers node_ports_start_numbers (ap (node_ports_from c.args.node c.args.sides) (start_at c.args.self c.args.node.0 _ (sym c.block.ensures ∙ c.in_ok-block.was)))
+returns c = with_numbers node_ports_start_numbers (ap (node_ports_from c.args.node c.args.sides) (start_at c.args.self.now c.args.node.0 _ (sym c.block.ensures ∙ c.in_ok-block.was)))

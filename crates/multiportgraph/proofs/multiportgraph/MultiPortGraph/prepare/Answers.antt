@@ -1,12 +1,9 @@
--- `multiportgraph::multiportgraph::MultiPortGraph::prepare` meets its contract: an end that is ready, one more subport, and a split.
-use mathlib.Core.Path.{sym, ◌∙◌}
-use Rattle.multiportgraph.specs.NamedLaws.{grow_needs, split_needs}
-use Rattle.multi_tables.specs.NamedEnds.{end_need_in}
-use Rattle.multiportgraph.specs.OwnTables.{read_off}
+-- `multiportgraph::multiportgraph::MultiPortGraph::prepare` meets its contract: what a need says of the port.
+use Rattle.multiportgraph.specs.NeedLaws.{grow_for, split_for}
 use Rattle.multiportgraph.proofs.multiportgraph.MultiPortGraph.prepare.Goals as goal
 
 pub grow-requires : goal.grow-requires
-grow-requires c = grow_needs c.requires (sym (c.need_in.ensures ∙ read_off c.args.self (λ a b o f. end_need_in a b o c.args.port.port c.args.port.side) c.wire_tables.ensures) ∙ c.in-Grow.is)
+grow-requires c = grow_for c.requires.0 c.requires.1 c.in-Grow.is
 
 pub split-requires : goal.split-requires
-split-requires c = split_needs c.requires (sym (c.need_in.ensures ∙ read_off c.args.self (λ a b o f. end_need_in a b o c.args.port.port c.args.port.side) c.wire_tables.ensures) ∙ c.in-Split.is)
+split-requires c = split_for c.requires.0 c.requires.1 c.in-Split.is

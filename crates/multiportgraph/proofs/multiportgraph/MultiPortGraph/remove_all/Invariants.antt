@@ -6,4 +6,4 @@ use Rattle.multiportgraph.specs.HiddenNodes.{remove_all}
 use Rattle.multiportgraph.proofs.multiportgraph.MultiPortGraph.remove_all.Given as goal
 
 abbrev pub invariant-loop-node : goal.invariant-loop-node
-invariant-loop-node l = Wf l.graph.graph × (remove_all l.graph (drop l.node-index l.list) ≡ remove_all l.initial.graph l.list)
+invariant-loop-node l = Wf l.self.graph × (remove_all l.self (drop l.node-index l.list) ≡ remove_all l.initial.self l.list)

@@ -8,7 +8,7 @@ use Rattle.multiportgraph.specs.StartSteps.{held_first, passed_told}
 use Rattle.multiportgraph.proofs.multiportgraph.MultiPortGraph.subports.Goals as goal
 
 pub returns-in_err-block : goal.returns-in_err-block
-returns-in_err-block c = passed_told node_subports_start_numbers _ c.from_residual.ensures.1 (ap (subports_from c.args.node c.args.sides) (start_at c.args.self c.args.node.0 _ (sym c.block.ensures ∙ c.in_err-block.was)))
+returns-in_err-block c = passed_told node_subports_start_numbers _ c.from_residual.ensures.1 (ap (subports_from c.args.node c.args.sides) (start_at c.args.self.now c.args.node.0 _ (sym c.block.ensures ∙ c.in_err-block.was)))
 
 pub returns : goal.returns
-returns c = rw (held_first c.default.ensures) (with_numbers node_subports_start_numbers (ap (subports_from c.args.node c.args.sides) (start_at c.args.self c.args.node.0 _ (sym c.block.ensures ∙ c.in_ok-block.was))))
+returns c = rw (held_first c.default.ensures) (with_numbers node_subports_start_numbers (ap (subports_from c.args.node c.args.sides) (start_at c.args.self.now c.args.node.0 _ (sym c.block.ensures ∙ c.in_ok-block.was))))

@@ -6,4 +6,4 @@ use Rattle.multiportgraph.specs.HiddenNodes.{unsplit_range}
 use Rattle.multiportgraph.proofs.multiportgraph.MultiPortGraph.unsplit_range.Given as goal
 
 abbrev pub invariant-loop-k : goal.invariant-loop-k
-invariant-loop-k l = Wf l.graph.graph × (unsplit_range l.graph (l.first + l.k) (l.count - l.k) ≡ unsplit_range l.initial.graph l.first l.count)
+invariant-loop-k l = Wf l.self.graph × (unsplit_range l.self (l.first + l.k) (l.count - l.k) ≡ unsplit_range l.initial.self l.first l.count)

@@ -7,11 +7,11 @@ use Rattle.portgraph.specs.LinkWalkSteps.{left_fits, ports_stepped, port_over, p
 use Rattle.portgraph.proofs.iter.NodePorts.step.Goals as goal
 
 pub ports_left-requires : goal.ports_left-requires
-ports_left-requires c = left_fits c.args.graph c.requires _ _ _ c.node_left.ensures c.in_ok-meta.was
+ports_left-requires c = left_fits c.args.graph.now c.requires _ _ _ c.node_left.ensures c.in_ok-meta.was
 
 pub returns-in_err-meta : goal.returns-in_err-meta
 returns-in_err-meta c =
-    rw c.from_residual.ensures (with_numbers ports_step_numbers (ap (ports_beyond _ _ _) (sym c.in_err-meta.was) ∙ ports_stepped c.args.graph c.args.self c.node_left.ensures))
+    rw c.from_residual.ensures (with_numbers ports_step_numbers (ap (ports_beyond _ _ _) (sym c.in_err-meta.was) ∙ ports_stepped c.args.graph.now c.args.self c.node_left.ensures))
 
 pub returns-in_err-port : goal.returns-in_err-port
 returns-in_err-port c =

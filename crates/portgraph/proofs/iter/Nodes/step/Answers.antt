@@ -12,11 +12,11 @@ use Rattle.portgraph.specs.Walks.{nodes_step_numbers}
 use Rattle.portgraph.proofs.iter.Nodes.step.Goals as goal
 use Rattle.portgraph.proofs.iter.Nodes.step.Goals.{After-find}
 
-searched : (c : After-find) → c.find.result ≡ before node_slots (first_where (node_hit c.args.graph.node_meta) c.args.self.held (node_slots - c.args.self.held))
+searched : (c : After-find) → c.find.result ≡ before node_slots (first_where (node_hit c.args.graph.now.node_meta) c.args.self.held (node_slots - c.args.self.held))
 searched c =
     rw (← c.wide.ensures)
     (found_where _ _ _ _
-    (first_from_Range _ _ _ _ (λ n. node_hit c.args.graph.node_meta n ≡ true) (λ n. node_hit c.args.graph.node_meta n ≡ false) c.find.ensures.ran (λ x q k. search (rules, tests)) (λ x q k. search (rules, tests))))
+    (first_from_Range _ _ _ _ (λ n. node_hit c.args.graph.now.node_meta n ≡ true) (λ n. node_hit c.args.graph.now.node_meta n ≡ false) c.find.ensures.ran (λ x q k. search (rules, tests)) (λ x q k. search (rules, tests))))
 
 pub returns-then-not-node_held : goal.returns-then-not-node_held
 returns-then-not-node_held c = with_numbers nodes_step_numbers (sym (step_where_gone _ _ (sym c.node_held.ensures ∙ c.if-not-node_held.true)))

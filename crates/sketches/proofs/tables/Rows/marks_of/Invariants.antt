@@ -2,7 +2,7 @@
 use Prim.Native.Nat.{◌≤◌}
 use Rattle.sketches.specs.Plan.{spot_named}
 use Rattle.sketches.specs.Rows.{wires_in}
-use Rattle.sketches.specs.Offsets.{Marks}
+use Rattle.sketches.specs.CallParts.{Marks}
 use Rattle.sketches.proofs.tables.Rows.marks_of.Given as goal
 
 abbrev pub invariant-loop-row : goal.invariant-loop-row

@@ -5,8 +5,9 @@ use Prim.Native.Nat.{◌+◌}
 use mathlib.Core.Bool.{false}
 use Rattle.sketches.specs.Plan.{Plan}
 use Rattle.sketches.specs.PlanCalls.{add_block}
-use Rattle.sketches.specs.BlockSteps.{no_room, added_no_room, added}
+use Rattle.sketches.specs.BlockSteps.{added_no_room, added}
 use Rattle.sketches.specs.Held.{Held, plan_of, HeldWf, seen_as}
+use Rattle.sketches.specs.CallParts.{no_room}
 use Rattle.sketches.proofs.totals.Sketch.add.Goals as goal
 
 pub returns-then-no_room : goal.returns-then-no_room

@@ -3,9 +3,10 @@ use mathlib.Core.Path.{◌≡◌, sym, subst, ◌∙◌}
 use native.Mathlib.Omega.{arith}
 use Rattle.sketches.specs.Plan.{Plan, offset_read}
 use Rattle.sketches.specs.PlanCalls.{link_subports}
-use Rattle.sketches.specs.EndSteps.{judge_ends, ends_refused, ends_room, ends_linked}
+use Rattle.sketches.specs.EndSteps.{ends_refused, ends_room, ends_linked}
 use Rattle.std.proofs.lemmas.Result.{err_from_is_err_and}
 use Rattle.sketches.specs.Held.{Held, plan_of, HeldWf, seen_as, back}
+use Rattle.sketches.specs.CallParts.{judge_ends}
 use Rattle.sketches.proofs.totals.Sketch.link_subports.Goals as goal
 
 pub returns-in_err-judge_ends : goal.returns-in_err-judge_ends

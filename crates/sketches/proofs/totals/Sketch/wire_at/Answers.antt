@@ -3,8 +3,8 @@ use mathlib.Core.Path.{ap}
 use native.Mathlib.Omega.{arith}
 use Prim.Native.Nat.{◌<◌}
 use Rattle.port_tables.specs.Places.{Place}
-use Rattle.sketches.specs.SketchWalks.{row_offsets}
 use Rattle.sketches.specs.Held.{Held}
+use Rattle.sketches.specs.WalkSteps.{row_offsets}
 use Rattle.sketches.proofs.totals.Sketch.wire_at.Goals as goal
 
 pub named-requires : goal.named-requires

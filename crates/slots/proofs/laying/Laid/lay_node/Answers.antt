@@ -3,12 +3,12 @@ use Rattle.slots.specs.LaySteps.{node_gone, node_blockless, node_block}
 use Rattle.slots.proofs.laying.Laid.lay_node.Goals as goal
 
 pub returns-in_default : goal.returns-in_default
-returns-in_default c = node_gone _ _ _ _ _ c.meta_in.ensures c.in_default.is
+returns-in_default c = node_gone c.args.nodes.now c.args.node _ _ _ c.meta_in.ensures c.in_default.is
 
 pub returns-then-meta-eq0 : goal.returns-then-meta-eq0
-returns-then-meta-eq0 c = node_blockless _ _ _ _ _ _ c.meta_in.ensures c.in-Some.is c.if-meta-eq0.true
+returns-then-meta-eq0 c = node_blockless c.args.nodes.now c.args.node _ _ _ _ c.meta_in.ensures c.in-Some.is c.if-meta-eq0.true
 
 pub returns : goal.returns
 returns c =
-    node_block _ _ _ _ _ _ c.meta_in.ensures c.in-Some.is
+    node_block c.args.nodes.now c.args.node _ _ _ _ c.meta_in.ensures c.in-Some.is
     c.if-meta-eq0.false c.lay_block.ensures

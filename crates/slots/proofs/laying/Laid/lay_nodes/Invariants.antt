@@ -4,7 +4,7 @@ use mathlib.Core.List.{flat_map}
 use Prim.Native.Nat.{◌-◌}
 use Rattle.port_tables.specs.Limits.{node_slots}
 use Rattle.port_tables.specs.Lists.{range}
-use Rattle.port_tables.specs.NodeWords.{meta_in}
+use Rattle.port_tables.specs.NodeTable.{meta_in}
 use Rattle.slots.specs.Blocks.{node_holds}
 use Rattle.slots.specs.Forms.{taken_in}
 use Rattle.slots.specs.LaySteps.{Left}

@@ -2,8 +2,7 @@
 use std::env::{Env, FillError};
 
 // How a program is started, after its name.
-pub const USAGE: &'static [u8] = b"\
- [--echo]
+pub const USAGE: &'static [u8] = b" [--echo]
 Commands come on standard input, one a line, and each is answered at once; `help` lists them.
   --echo  prints each line before its answer
   --help  prints these lines

@@ -68,8 +68,8 @@ impl MultiPortGraph {
     }
 
     // The end that a subport means.
-    fn end_of(self, subport: SubportIndex) -> Result<u32, Refusal>
-        ensures { result ≡ end_named self.multiport self.graph.port_link self.graph.port_meta self.copy_node subport.port.0 subport.subport_offset }
+    fn end_of(&self, subport: SubportIndex) -> Result<u32, Refusal>
+        ensures { result ≡ end_named self.now.multiport self.now.graph.port_link self.now.graph.port_meta self.now.copy_node subport.port.0 subport.subport_offset }
     {
         self.wire_tables().end_named(subport)
     }

@@ -20,7 +20,7 @@ use Rattle.port_tables.specs.declared.node_entry.NodeMeta.{NodeMeta}
 use Rattle.portgraph.specs.declared.alloc.NodeAdded as lower_added
 use Rattle.multiportgraph.specs.WellFormed.{copy_place, Fine, BlockIs, Seen}
 use Rattle.multiportgraph.specs.Ends.{split_has_copy}
-use Rattle.multiportgraph.specs.HiddenStays.{plain_frame, frame_fine, hidden_below, split_below, true_not_false}
+use Rattle.multiportgraph.specs.HiddenStays.{plain_frame, frame_fine, hidden_below, split_below, true_not_false, same_slot}
 use Rattle.multiportgraph.specs.LinkCutLaws.{AddDone, AddSays, add_block_law, at_spot_is}
 use Rattle.multiportgraph.specs.CaseLaws.{add_cases}
 use Rattle.multiportgraph.specs.Calls.{add_block, added_as}
@@ -33,7 +33,6 @@ use Rattle.multiportgraph.specs.declared.multiportgraph.NodeAdded.{NodeAdded}
 use Rattle.multi_tables.specs.declared.answers.Refusal.TheVariants.{NoRoom}
 use Rattle.theorems.specs.Book as book
 use Rattle.theorems.specs.Book.{book_add}
-use Rattle.theorems.specs.BookLaws.{so_not_false}
 use Rattle.theorems.proofs.WireRule.{blocks_added, wires_same, seen_live}
 use Rattle.sketches.specs.Plan.{Plan, PlanBlock, has_block, ports_on_side, ports_in_all, port_at, is_there, subports_among}
 use Rattle.sketches.specs.PlanCalls as sketch
@@ -48,8 +47,9 @@ use Rattle.agreement.specs.Square.{Square, pair}
 use Rattle.agreement.specs.Names.{naming, renamed, renamed_same}
 use Rattle.agreement.specs.Standing.{block_had, wires_named}
 use Rattle.agreement.specs.PlanLaws.{among_none}
-use Rattle.agreement.specs.KeptSplits.{split_kept, same_subports, same_slot, any_model}
+use Rattle.agreement.specs.KeptSplits.{split_kept, same_subports, any_model}
 use Rattle.sketches.specs.declared.sketch.Reason.{Reason}
+use Rattle.std.proofs.lemmas.Bool.{false_from_ne_true}
 
 -- The graph after an add that has room.
 
@@ -72,7 +72,7 @@ module _ {m : MultiPortGraph} {M : Model} (f : Fine m M) (i o : ℕ) (small : i 
   -- no port of the new block is split
   new_whole : (y : model.InnerPlace) → Seen grown (add_model M i o) y → y.node ≡ next_slot M → subports_at grown (add_model M i o) y ≡ 0
   new_whole y s e =
-      rw (so_not_false (is_split grown (slot_of (add_model M i o).node y))
+      rw (false_from_ne_true (is_split grown (slot_of (add_model M i o).node y))
       (λ t.
       let k = split_has_copy grown_fine y s t in
       let v : Valid M.node y = f.good.join_valid y _ k.back in
@@ -176,7 +176,7 @@ module _ {b : Both} {M : Model} (a : Alike b M) where
           let c : y.node ≡ next_slot M = sym q ∙ ap (λ (v : Naming). v.node) e in
           let s' : Seen graph (add_model M i o) y = (subst (λ (v : Slots). y.pos < count_of v y.side) (same_places y) s.0, s.1) in
           among_none b.plan.splits (spot n.name y.side y.pos)
-          (λ t j. so_not_false _ (λ h.
+          (λ t j. false_from_ne_true _ (λ h.
           let g = split_given t j in
           let u = (at_spot_is n.name y.side y.pos t h).0 in
           omega arith))

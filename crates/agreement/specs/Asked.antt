@@ -13,7 +13,7 @@ use Rattle.port_tables.specs.declared.direction.Direction.TheVariants.{Incoming,
 use Rattle.multiportgraph.specs.WellFormed.{Fine, Seen, lift, outer, IsEnd, WireIn}
 use Rattle.multiportgraph.specs.Ends.{EndOf, other_side, outer_seen, outer_apart, ends_join_ends, subport_of_lem, outer_of_block, outer_of_subport, unsplit_no_copy}
 use Rattle.multiportgraph.specs.HiddenStays.{true_not_false}
-use Rattle.multiportgraph.specs.LinkCutLaws.{end_is_here, end_is_same, nowhere_not_to, to_same}
+use Rattle.multiportgraph.specs.LinkCutLaws.{end_is_here, end_is_same}
 use Rattle.multiportgraph.specs.CopyLaws.{port_at_is, port_at_here}
 use Rattle.multiportgraph.specs.CaseLaws.{subport_link_cases}
 use Rattle.multiportgraph.specs.Calls.{subport_link}
@@ -24,7 +24,7 @@ use Rattle.multiportgraph.specs.Wires.{place_of}
 use Rattle.multiportgraph.specs.declared.multiportgraph.MultiPortGraph.{MultiPortGraph}
 use Rattle.multi_tables.specs.declared.answers.PortPlace.{PortPlace}
 use Rattle.theorems.specs.Book.{Book, read_by}
-use Rattle.theorems.specs.BookLaws.{any_touches_lem, none_touches, so_not_false, or_true, or_right}
+use Rattle.theorems.specs.BookLaws.{any_touches_lem, none_touches, or_true}
 use Rattle.theorems.specs.Conditions.{sub_offset, sub_dead, sub_lacks}
 use Rattle.theorems.proofs.CutSubCall.{subport_link_refuses}
 use Rattle.theorems.specs.PortCases.{seen_block_port, is_lacking, end_is_lem}
@@ -44,6 +44,8 @@ use Rattle.port_tables.specs.declared.index.PortIndex.{PortIndex}
 use Rattle.portgraph.specs.declared.portgraph.NoSuchPort.{NoSuchPort}
 use Rattle.multi_tables.specs.declared.answers.Refusal.{Refusal}
 use Rattle.multi_tables.specs.declared.answers.SubportIndex.{SubportIndex}
+use Rattle.std.proofs.lemmas.Bool.{false_from_ne_true, or_right}
+use Rattle.portgraph.specs.Joins.{nowhere_not_to, to_same}
 
 -- The first far end that a list of wires has.
 
@@ -121,7 +123,7 @@ module _ {m : MultiPortGraph} {M : Model} {B : Book} (r : Rel m M B) (z : model.
   far_of_free j =
       far_none f B.wires
       (none_touches f B.wires
-      (λ w i. so_not_false (touches f w)
+      (λ w i. false_from_ne_true (touches f w)
       (λ t. let h = r.wires.booked w i in
       ⊎_elim (λ p. nowhere_not_to j (out_far w h p).1) (λ p. nowhere_not_to j (into_far w h p).1) (or_true (f w.out) (f w.into) t))))
 

@@ -6,7 +6,7 @@ use Rattle.portgraph.specs.Model as model
 use Rattle.portgraph.specs.Model.{Model, Slots, count_of, slot_of}
 use Rattle.portgraph.specs.GoodSlots.{same_place_lem}
 use Rattle.multiportgraph.specs.WellFormed.{Fine, Seen, SameBlocks, lift}
-use Rattle.multiportgraph.specs.HiddenStays.{true_not_false}
+use Rattle.multiportgraph.specs.HiddenStays.{true_not_false, same_slot}
 use Rattle.multiportgraph.specs.LinkCutLaws.{at_spot_here, at_spot_is}
 use Rattle.port_tables.specs.Places.{Place, spot, at_spot}
 use Rattle.multiportgraph.specs.declared.multiportgraph.MultiPortGraph.{MultiPortGraph}
@@ -19,7 +19,6 @@ use Rattle.agreement.specs.Alike.{Alike, subports_at, wire_renamed}
 use Rattle.agreement.specs.Names.{naming, node_of_lem, one_name}
 use Rattle.agreement.specs.Standing.{PortHere, here#}
 use Rattle.agreement.specs.PlanLaws.{set_here, set_elsewhere, set_splits}
-use Rattle.agreement.specs.KeptSplits.{same_slot}
 
 -- what is there depends on the blocks alone
 pub there_by_blocks : (K K' : Plan) → K'.blocks ≡ K.blocks → (x : SketchPort) → is_there K' x ≡ is_there K x

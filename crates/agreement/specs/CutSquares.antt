@@ -15,8 +15,8 @@ use Rattle.portgraph.specs.PlaceLaws.{port_link_to, port_link_none}
 use Rattle.portgraph.specs.declared.portgraph.PortGraph.{PortGraph}
 use Rattle.multiportgraph.specs.WellFormed.{copy_place, Fine, Seen, outer, IsEnd, SameBlocks, Wiring}
 use Rattle.multiportgraph.specs.Ends.{Hangs, EndOf, split_has_copy, unsplit_is_end, ends_join_ends}
-use Rattle.multiportgraph.specs.HiddenStays.{true_not_false, hidden_below, split_below}
-use Rattle.multiportgraph.specs.LinkCutLaws.{end_is, end_is_here, end_is_same, cut_end_lem, to_same}
+use Rattle.multiportgraph.specs.HiddenStays.{true_not_false, hidden_below, split_below, same_slot}
+use Rattle.multiportgraph.specs.LinkCutLaws.{end_is, end_is_here, end_is_same, cut_end_lem}
 use Rattle.multiportgraph.specs.CopyLaws.{CopyGone, copy_goes, unsplit_split, same_test}
 use Rattle.multiportgraph.specs.CaseLaws.{cut_sub_cases}
 use Rattle.multiportgraph.proofs.CutLaws.{cut_cases}
@@ -34,13 +34,12 @@ use Rattle.multiportgraph.specs.declared.multiportgraph.PortUnlinked.{PortUnlink
 use Rattle.multi_tables.specs.declared.answers.Refusal.{Refusal}
 use Rattle.theorems.specs.Book as book
 use Rattle.theorems.specs.Book.{spot_of, read_by, book_cut}
-use Rattle.theorems.proofs.AnswerWires.{cut_sub_answers, place_at}
-use Rattle.theorems.specs.BookLaws.{so_not_false}
+use Rattle.theorems.proofs.AnswerWires.{place_at}
 use Rattle.theorems.specs.Conditions.{SubRefused, sub_offset, sub_dead, sub_lacks, cut_dead}
 use Rattle.theorems.proofs.CutCall.{cut_refuses}
 use Rattle.theorems.proofs.CutSubCall.{cut_sub_refuses}
 use Rattle.theorems.specs.PortCases.{seen_block_port, is_lacking, end_is_lem}
-use Rattle.theorems.proofs.WireRule.{rel_cut, spot_of_lem}
+use Rattle.theorems.proofs.WireRule.{rel_cut}
 use Rattle.sketches.specs.Plan.{Plan, is_there, spot_named, far_from, offset_read, subports_of, set_subports, with_wires}
 use Rattle.sketches.specs.PlanCalls as sketch
 use Rattle.sketches.specs.PlanCalls.{Sketched, leaves, is_refused, port_found}
@@ -54,7 +53,7 @@ use Rattle.agreement.specs.Square.{Square}
 use Rattle.agreement.specs.Names.{naming, SameTest, same_spot, without_renamed, far_renamed, far_renamed_lem}
 use Rattle.agreement.specs.Standing.{PortHere, PortGone, here#, port_meant, wires_named, is_split_lem}
 use Rattle.agreement.specs.PlanLaws.{set_release, set_adds, set_blocks, set_wires}
-use Rattle.agreement.specs.KeptSplits.{split_kept, same_subports, same_slot}
+use Rattle.agreement.specs.KeptSplits.{split_kept, same_subports}
 use Rattle.agreement.specs.Carry.{alike_after, subports_set, set_there}
 use Rattle.agreement.specs.Asked.{same_tests, asked_alike, far_stands, far_of_end, far_of_free, whole_here, whole_only}
 use Rattle.sketches.specs.declared.sketch.Reason.{Reason}
@@ -62,6 +61,10 @@ use Rattle.sketches.specs.declared.sketch.SketchEnd.{SketchEnd}
 use Rattle.port_tables.specs.declared.index.PortIndex.{PortIndex}
 use Rattle.portgraph.specs.declared.portgraph.NoSuchPort.{NoSuchPort}
 use Rattle.multi_tables.specs.declared.answers.SubportIndex.{SubportIndex}
+use Rattle.std.proofs.lemmas.Bool.{false_from_ne_true}
+use Rattle.portgraph.specs.Joins.{to_same}
+use Rattle.multiportgraph.specs.LowerSteps.{link_cut}
+use Rattle.agreement.specs.LinkSteps.{spot_here}
 
 -- Cutting an end keeps every port as split as it was.
 
@@ -109,23 +112,19 @@ module _ {b : Both} {M : Model} (a : Alike b M) (p o : ℕ) (x : SketchPort) whe
     abbrev graph : MultiPortGraph
     graph = with_graph m (unlink_port m.graph q).graph
 
-    -- where the port stands in the book
-    stands : spot_of b.kit.book.blocks p ≡ spot h.node x.side x.position
-    stands = ap (spot_of b.kit.book.blocks) (sym h.slot) ∙ spot_of_lem a.rel (here# h) h.is_seen
-
     abbrev model' : Model
     model' = unlink_model M e.end
 
     cut_is : end_is (outer m M e.end) ≡ entry
     cut_is =
         ap end_is e.is
-        ∙ (ap (λ (s : ℕ). at_end (spot h.node x.side x.position) (read_by (is_split m s) o)) h.slot ∙ ap (λ (t : Spot). at_end t (read_by (is_split m p) o)) (sym stands))
+        ∙ (ap (λ (s : ℕ). at_end (spot h.node x.side x.position) (read_by (is_split m s) o)) h.slot ∙ ap (λ (t : Spot). at_end t (read_by (is_split m p) o)) (sym (spot_here a h)))
 
     wires_left : plan_cut.wires ≡ map (wire_renamed b.names) (without entry b.kit.book.wires)
     wires_left =
         ap (without (at_end (spot_named x) (offset_read b.plan x o))) a.wires
         ∙ (sym (without_renamed b.names (at_end (spot h.node x.side x.position) (read_by (is_split m p) o)) (at_end (spot_named x) (offset_read b.plan x o)) (same_tests a h o) b.kit.book.wires (wires_named a))
-        ∙ ap (λ (t : Spot). map (wire_renamed b.names) (without (at_end t (read_by (is_split m p) o)) b.kit.book.wires)) (sym stands))
+        ∙ ap (λ (t : Spot). map (wire_renamed b.names) (without (at_end t (read_by (is_split m p) o)) b.kit.book.wires)) (sym (spot_here a h)))
 
     done : Alike (record { kit = record { graph = graph; book = book.with_wires b.kit.book (without entry b.kit.book.wires) }; names = b.names; plan = plan_cut }) model'
     done =
@@ -171,7 +170,7 @@ module _ {b : Both} {M : Model} (a : Alike b M) (p o : ℕ) (x : SketchPort) whe
 pub cut_sub_square : {b : Both} {M : Model} (p o : ℕ) (x : SketchPort) (means : PortMeans b p x) → Square b M (means_cut_sub p o x means)
 unfolding sketch.cut_subport
 cut_sub_square {b} {M} p o x means a room =
-    let k = subst (λ (v : Result (Option (SubportIndex × PortPlace)) Refusal). EndAlike b.names v (sketch.subport_link b.plan x o)) (sym (cut_sub_answers b.kit.graph p o)) (asked_alike a p o x means) in
+    let k = subst (λ (v : Result (Option (SubportIndex × PortPlace)) Refusal). EndAlike b.names v (sketch.subport_link b.plan x o)) (link_cut b.kit.graph p o) (asked_alike a p o x means) in
     let l = cut_left a p o x means (sketch.subport_link b.plan x o) k in
     record { answers = k; model = l.0; alike = l.1 }
 
@@ -198,7 +197,7 @@ module _ {m : MultiPortGraph} {M : Model} (f : Fine m M) (x : model.InnerPlace) 
         upd_other M.node h.copy gone k.copy other,
         drop_kept (at_node h.copy) M.join y (copy_place m k.copy) k.back (ne_eqb y.node h.copy shown) (ne_eqb k.copy h.copy other),
       ))
-      (λ e. so_not_false _ (λ t. true_not_false (g.only_split (slot_of M.node y) (ap (is_split without#) (sym slot) ∙ t)) e))
+      (λ e. false_from_ne_true _ (λ t. true_not_false (g.only_split (slot_of M.node y) (ap (is_split without#) (sym slot) ∙ t)) e))
     where
       g : CopyGone m M x without# model_without
       g = copy_goes f x h
@@ -225,7 +224,7 @@ whole_test {m} {M} f x s n z ez = go (at_spot (spot x.node x.side x.pos) (outer 
     go : (t : Bool) → at_spot (spot x.node x.side x.pos) (outer m M z) ≡ t → end_is (outer m M x) (outer m M z) ≡ t
     go true e = ap (λ (v : model.InnerPlace). end_is (outer m M x) (outer m M v)) (whole_only f x n z ez e) ∙ end_is_here (outer m M x)
     go false e =
-        so_not_false _
+        false_from_ne_true _
         (λ t. true_not_false (ap (at_spot (spot x.node x.side x.pos)) (end_is_same (outer m M x) (outer m M z) t) ∙ whole_here f x s) e)
 
 module _ {b : Both} {M : Model} (a : Alike b M) (p : ℕ) (x : SketchPort) where
@@ -244,9 +243,6 @@ module _ {b : Both} {M : Model} (a : Alike b M) (p : ℕ) (x : SketchPort) where
       × ((M' : Model) × Alike (record { kit = record { graph = w.graph; book = book_cut b.kit.book spot_entry w.answer }; names = b.names; plan = v.plan }) M')
 
   module _ (h : PortHere b M p x) where
-    spot_is : spot_of b.kit.book.blocks p ≡ spot h.node x.side x.position
-    spot_is = ap (spot_of b.kit.book.blocks) (sym h.slot) ∙ spot_of_lem a.rel (here# h) h.is_seen
-
     spot_tests : SameTest b.names (at_spot (spot h.node x.side x.position)) (at_spot (spot_named x))
     spot_tests = same_spot b.names a.apart h.node x.block h.named x.side x.position
 
@@ -255,7 +251,7 @@ module _ {b : Both} {M : Model} (a : Alike b M) (p : ℕ) (x : SketchPort) where
         set_wires rest x 0
         ∙ (ap (without (at_spot (spot_named x))) a.wires
         ∙ (sym (without_renamed b.names (at_spot (spot h.node x.side x.position)) (at_spot (spot_named x)) spot_tests b.kit.book.wires (wires_named a))
-        ∙ ap (λ (t : Spot). map (wire_renamed b.names) (without (at_spot t) b.kit.book.wires)) (sym spot_is)))
+        ∙ ap (λ (t : Spot). map (wire_renamed b.names) (without (at_spot t) b.kit.book.wires)) (sym (spot_here a h))))
 
     -- the graph that is left, by what happened to blocks, wires and subports
     whole_done : (g : MultiPortGraph) (M' : Model) → Fine g M' → SameBlocks kit_graph M g M' → Wiring kit_graph M g M' (at_spot (spot h.node x.side x.position)) [] →
@@ -263,7 +259,7 @@ module _ {b : Both} {M : Model} (a : Alike b M) (p : ℕ) (x : SketchPort) where
         ((y : model.InnerPlace) → Seen kit_graph M y → (y ≡ here# h → ⊥) → subports_at g M' y ≡ subports_at kit_graph M y) →
         Alike (record { kit = record { graph = g; book = book.with_wires b.kit.book (without spot_entry b.kit.book.wires) }; names = b.names; plan = set_subports rest x 0 }) M'
     whole_done g M' f' blocks wires release now others =
-        alike_after a _ (set_subports rest x 0) (rel_cut a.rel f' blocks _ spot_entry (ap at_spot (sym spot_is)) wires) blocks
+        alike_after a _ (set_subports rest x 0) (rel_cut a.rel f' blocks _ spot_entry (ap at_spot (sym (spot_here a h))) wires) blocks
         (set_release rest x 0) release (set_adds rest x 0) (set_blocks rest x 0) (subports_set a h rest refl 0 g M' now others) (set_there a h rest refl 0) rest_wires
 
     split_left : is_split kit_graph p ≡ true →

@@ -1,5 +1,5 @@
 -- A port whose hidden node stays, with its counts and its link, stays split with as many subports.
-use Rattle.std.specs.Prelude.{◌≡◌, refl, Bool, true, false, cond, ℕ, ◌+◌}
+use Rattle.std.specs.Prelude.{◌≡◌, refl, Bool, true, false, cond, ℕ}
 use Rattle.std.proofs.Common.{sym, ◌∙◌, ap, arith}
 use Rattle.portgraph.specs.Model as model
 use Rattle.portgraph.specs.Model.{Model, to, Slots, Holds, slot_of, count_of, first_of, side_start}
@@ -8,7 +8,7 @@ use Rattle.port_tables.specs.declared.direction.Direction.{Direction}
 use Rattle.portgraph.specs.declared.portgraph.PortGraph.{PortGraph}
 use Rattle.multiportgraph.specs.WellFormed.{inner#, copy_place, Fine, Seen}
 use Rattle.multiportgraph.specs.Ends.{Hangs, hangs, split_has_copy, one_copy}
-use Rattle.multiportgraph.specs.HiddenStays.{copy_side_is}
+use Rattle.multiportgraph.specs.HiddenStays.{copy_side_is, same_slot}
 use Rattle.multiportgraph.specs.SetLaws.{SameSplit}
 use Rattle.multiportgraph.specs.Reading.{is_hidden, is_split, copy_side, subports}
 use Rattle.multiportgraph.specs.declared.multiportgraph.MultiPortGraph.{MultiPortGraph}
@@ -17,9 +17,6 @@ use Rattle.agreement.specs.Alike.{subports_at}
 -- all models of a graph have the same nodes
 pub same_nodes : {g : PortGraph} {M N : Model} → Holds g M → Holds g N → (n : ℕ) → N.node n ≡ M.node n
 same_nodes h k n = sym (k.nodes n) ∙ h.nodes n
-
-pub same_slot : (M N : Model) (x : model.InnerPlace) → N.node x.node ≡ M.node x.node → slot_of N.node x ≡ slot_of M.node x
-same_slot M N x e = ap (λ (s : Slots). first_of s + (side_start s x.side + x.pos)) e
 
 -- so they count the same subports
 pub any_model : (m : MultiPortGraph) {M N : Model} → Holds m.graph M → Holds m.graph N → (x : model.InnerPlace) → subports_at m N x ≡ subports_at m M x

@@ -16,7 +16,7 @@ use Rattle.multi_tables.specs.declared.answers.Refusal.TheVariants.{NoRoom}
 use Rattle.theorems.specs.Book as book
 use Rattle.theorems.specs.Book.{book_link}
 use Rattle.theorems.specs.Conditions.{LinkRefused, OfBlock, Taken, clean_first_dead, clean_full, clean_one_side, clean_second_dead, clean_wired}
-use Rattle.theorems.proofs.LinkCall.{links_otherwise, sides_differ}
+use Rattle.theorems.proofs.LinkCall.{links_otherwise}
 use Rattle.theorems.proofs.LinkCleanCall.{clean_refuses, link_is_clean}
 use Rattle.theorems.specs.TakenLaws.{so_free, so_taken}
 use Rattle.sketches.specs.Plan.{input_taken}
@@ -35,6 +35,7 @@ use Rattle.agreement.specs.LinkSteps.{LinkResult, prepare_alike, second_prepared
 use Rattle.agreement.specs.LinkSquare.{none_hidden, both_ends}
 use Rattle.sketches.specs.declared.sketch.Reason.{Reason}
 use Rattle.sketches.specs.declared.sketch.SketchEnd.{SketchEnd}
+use Rattle.portgraph.specs.Joins.{same_side_false}
 
 module _ {b : Both} {M : Model} (a : Alike b M) (p q : ℕ) (x y : SketchPort) (first : PortMeans b p x) (second : PortMeans b q y)
     (room : HasRoom b (pair (book.link_clean_call p q) (link_clean_plan x y))) where
@@ -60,7 +61,7 @@ module _ {b : Both} {M : Model} (a : Alike b M) (p q : ℕ) (x y : SketchPort) (
 
     module _ (c : same_side x.side y.side ≡ false) where
       opposite : x.side ≡ y.side → ⊥
-      opposite = sides_differ x.side y.side c
+      opposite = same_side_false x.side y.side c
 
       no_room : LinkRefused m M p q m NoRoom → ⊥
       no_room e = room.kit (ap (λ (v : PortsLinked). v.answer) (clean_refuses a.rel.fine p q NoRoom (clean_full (here# h) (here# k) at_first at_second opposite e)))

@@ -16,7 +16,7 @@ use Rattle.multi_tables.specs.declared.answers.Refusal.TheVariants.{NoRoom}
 use Rattle.theorems.specs.Book as book
 use Rattle.theorems.specs.Book.{book_link}
 use Rattle.theorems.specs.Conditions.{LinkRefused, OfBlock, OfHidden, Taken, link_first_dead, link_first_full, link_one_side, link_second_dead, link_second_full, link_wired}
-use Rattle.theorems.proofs.LinkCall.{block_not_hidden, dead_not_hidden, link_refuses, links_otherwise, sides_differ}
+use Rattle.theorems.proofs.LinkCall.{block_not_hidden, dead_not_hidden, link_refuses, links_otherwise}
 use Rattle.theorems.specs.TakenLaws.{so_free, so_taken}
 use Rattle.sketches.specs.Plan.{input_taken, ready}
 use Rattle.sketches.specs.PlanCalls as sketch
@@ -33,6 +33,7 @@ use Rattle.agreement.specs.LinkTests.{taken_alike}
 use Rattle.agreement.specs.LinkSteps.{LinkResult, prepare_alike, second_prepared, accepted_result}
 use Rattle.sketches.specs.declared.sketch.Reason.{Reason}
 use Rattle.sketches.specs.declared.sketch.SketchEnd.{SketchEnd}
+use Rattle.portgraph.specs.Joins.{same_side_false}
 
 -- the port that a call names is no hidden one
 pub none_hidden : {b : Both} {M : Model} → Alike b M → (q : ℕ) (y : SketchPort) → PortHere b M q y ⊎ PortGone b M q y → OfHidden b.kit.graph M q → ⊥
@@ -93,7 +94,7 @@ module _ {b : Both} {M : Model} (a : Alike b M) (p q : ℕ) (x y : SketchPort) (
     sides m₁ m₂ u o v r e g false c false i =
         let s = prepare_alike a h m₁ u o e in
         let t = second_prepared a s k m₂ v r g in
-        let opposite = sides_differ x.side y.side c in
+        let opposite = same_side_false x.side y.side c in
         so _ (both_linked b.plan x y) (links_otherwise a.rel.fine p q free (here# h) (here# k) m₁ m₂ u o v r at_first at_second e g opposite)
         (rw (h.there, untaken, k.there, c, i) refl) (accepted_result a h k m₁ u o m₂ v r s t opposite)
 

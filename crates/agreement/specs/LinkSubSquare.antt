@@ -23,7 +23,6 @@ use Rattle.multiportgraph.specs.declared.multiportgraph.PortsLinked.{PortsLinked
 use Rattle.theorems.specs.Book as book
 use Rattle.theorems.specs.Book.{Book, with_wires, spot_of, add_wire, read_by, book_link_sub}
 use Rattle.theorems.specs.Conditions.{Lacks, OfBlock, Offsets, Taken, sub_first_dead, sub_first_lacks, sub_first_linked, sub_offsets, sub_one_side, sub_second_dead, sub_second_lacks, sub_second_linked, sub_wired}
-use Rattle.theorems.proofs.LinkCall.{sides_differ}
 use Rattle.theorems.proofs.LinkSubCall.{link_sub_refuses, links_sub_otherwise}
 use Rattle.theorems.specs.PortCases.{end_is_lem, is_lacking}
 use Rattle.theorems.specs.TakenLaws.{so_free, so_taken}
@@ -45,6 +44,7 @@ use Rattle.sketches.specs.declared.sketch.Reason.{Reason}
 use Rattle.sketches.specs.declared.sketch.SketchEnd.{SketchEnd}
 use Rattle.multi_tables.specs.declared.answers.Refusal.{Refusal}
 use Rattle.multi_tables.specs.declared.answers.SubportIndex.{SubportIndex}
+use Rattle.portgraph.specs.Joins.{same_side_false}
 
 -- an end that is not lacking
 pub end_there : {b : Both} {M : Model} {p : ℕ} {x : SketchPort} (a : Alike b M) (h : PortHere b M p x) (o : ℕ) → (Lacks b.kit.graph M (here# h) o → ⊥) →
@@ -91,7 +91,7 @@ module _ {b : Both} {M : Model} (a : Alike b M) (p o q r : ℕ) (x y : SketchPor
 
         module _ (c : same_side x.side y.side ≡ false) where
           opposite : x.side ≡ y.side → ⊥
-          opposite = sides_differ x.side y.side c
+          opposite = same_side_false x.side y.side c
 
           module _ (w₁ : is_wired b.plan x o ≡ false) (w₂ : is_wired b.plan y r ≡ false) where
             free_ends : FreeEnds h k (read_by (is_split m p) o) (read_by (is_split m q) r)

@@ -25,7 +25,7 @@ use Rattle.multiportgraph.specs.declared.multiportgraph.MultiPortGraph.{MultiPor
 use Rattle.port_tables.specs.declared.release.Release.{Release}
 use Rattle.port_tables.specs.declared.release.Release.TheVariants.{One, Two}
 use Rattle.theorems.specs.Book.{read_by}
-use Rattle.theorems.specs.BookLaws.{or_true, or_right, any_touches_lem}
+use Rattle.theorems.specs.BookLaws.{or_true, any_touches_lem}
 use Rattle.theorems.specs.TakenLaws.{wired_input_lem, input_wired}
 use Rattle.theorems.proofs.WireRule.{has_end_touches, touches_has_end, offset_of_lem}
 use Rattle.sketches.specs.Plan.{spot_named, wired_side, taken_under, input_taken, offset_ready}
@@ -35,6 +35,7 @@ use Rattle.agreement.specs.Meaning.{Both}
 use Rattle.agreement.specs.Alike.{Alike}
 use Rattle.agreement.specs.Names.{any_renamed, next_renamed, same_end, same_spot}
 use Rattle.agreement.specs.Standing.{PortHere, PortGone, here#, offset_read_lem, wires_named}
+use Rattle.std.proofs.lemmas.Bool.{or_right}
 
 -- some wire has an end that passes a test
 pub touching : (f : Place → Bool) (l : List Wire) → any_touches f l ≡ true → (w : Wire) × Member w l × (touches f w ≡ true)

@@ -1,7 +1,8 @@
 -- From the relation: what both look like. First the wires that lists have under the names, then counts and fan-outs, then the walks.
 use Rattle.std.specs.Prelude.{◌≡◌, refl, Bool, true, false, cond, List, [], ◌∷◌, ℕ, ◌+◌, length}
 use Rattle.std.proofs.Common.{sym, ◌∙◌, ap, subst, arith}
-use Rattle.port_tables.specs.Lists.{filter, Member, Once}
+use Rattle.port_tables.specs.Lists.{Member, Once}
+use Rattle.std.specs.List.{filter}
 use Rattle.port_tables.specs.Listing.{member_map, map_member, member_filter, filter_member, length_map}
 use Rattle.port_tables.specs.Places.{Place, Wire, flag}
 use Rattle.theorems.specs.BookLaws.{left_once}
@@ -15,7 +16,6 @@ use Rattle.agreement.specs.Names.{naming, HasName, WireNamed, name_of_lem, renam
 use Rattle.agreement.specs.Standing.{wires_named}
 
 count_is : (f : Wire → Bool) (l : List Wire) → length (filter f l) ≡ count f l
-unfolding filter
 count_is f [] = refl
 count_is f (w ∷ l) = go (f w) (count_is f l)
   where

@@ -6,7 +6,8 @@ use mathlib.Core.List.{List, [], ◌∷◌, map, flat_map}
 use Rattle.std.proofs.Math.Logic.{⊎_elim}
 use Rattle.std.proofs.Math.Dec.{eqb}
 use Rattle.std.proofs.lemmas.Bool.{eqb-false}
-use Rattle.port_tables.specs.Lists.{filter, Member, Once, Rising, range}
+use Rattle.port_tables.specs.Lists.{Member, Once, Rising, range}
+use Rattle.std.specs.List.{filter}
 use Rattle.portgraph.specs.Lookups.{num_ports, contains_node, is_some}
 use Rattle.portgraph.specs.Model.{Model, Slots, count_of}
 use Rattle.portgraph.specs.PlaceLaws.{meta_of_node, gone_has_no_meta}
@@ -20,7 +21,7 @@ use Rattle.multiportgraph.specs.HiddenStays.{true_not_false}
 use Rattle.multiportgraph.specs.WellFormed.{inner#, BlockIs}
 use Rattle.theorems.proofs.ListingWires.{spot_back}
 use Rattle.port_tables.specs.Listing as listing
-use Rattle.port_tables.specs.Listing.{member_map, map_member, member_filter, filter_member, filter_all, rising_filter, rising_map, length_map}
+use Rattle.port_tables.specs.Listing.{member_map, map_member, member_filter, filter_member, filter_all, rising_filter, rising_map, length_map, length_range}
 use Rattle.multiportgraph.specs.Lookups.{port_fan_out, node_fan_out}
 use Rattle.port_tables.specs.Places.{spot, at_spot, touches}
 use Rattle.multiportgraph.specs.Walks.{start_at_port, start_at_node, start_between}
@@ -28,7 +29,7 @@ use Rattle.multiportgraph.specs.Wires.{blocks, ports_of_side}
 use Rattle.multiportgraph.specs.declared.multiportgraph.MultiPortGraph.{MultiPortGraph}
 use Rattle.port_tables.specs.declared.release.Release.{Release}
 use Rattle.theorems.specs.Book.{Call}
-use Rattle.theorems.specs.BookLaws.{length_range, not_so_true}
+use Rattle.theorems.specs.BookLaws.{not_so_true}
 use Rattle.theorems.specs.Claims.{FanOutIsWires}
 use Rattle.theorems.specs.Conditions.{cut_dead, remove_unknown}
 use Rattle.theorems.proofs.FanOutWires.{fan_out_is_wires}
@@ -63,7 +64,7 @@ abbrev not_named : ℕ → PlanBlock → Bool
 not_named n b = not (eqb b.name n)
 
 weigh_without : (f : PlanBlock → ℕ) (l : List PlanBlock) → Rising OtherName l → (p : PlanBlock) → Member p l → weigh f l ≡ f p + weigh f (filter (not_named p.name) l)
-unfolding weigh filter
+unfolding weigh
 weigh_without f [] r p never = absurd never
 weigh_without f (q ∷ l) r p (inl e) =
     let others : filter (not_named p.name) l ≡ l =

@@ -1,7 +1,8 @@
 -- Which call of the sketch means which call of the engine. A block of the engine has its number, which is used again after a removal; in the sketch its
 -- name is how many adds were accepted before it, which is never used again. Between them stands the list of names, kept along the history.
 use Rattle.std.specs.Prelude.{◌≡◌, false, not, List, [], ◌∷◌, ℕ, eqb, Option, Result, Ok, Err}
-use Rattle.port_tables.specs.Lists.{filter, Member}
+use Rattle.port_tables.specs.Lists.{Member}
+use Rattle.std.specs.List.{filter}
 use Rattle.portgraph.specs.Lookups.{contains_node}
 use Rattle.port_tables.specs.Places.{spot}
 use Rattle.multiportgraph.specs.Reading.{seen}

@@ -6,7 +6,8 @@ use Rattle.std.proofs.Math.Bool.{true, false, cond}
 use mathlib.Core.List.{List, [], ◌∷◌, map}
 use Prim.Native.Nat.{ℕ, zero, suc}
 use Rattle.std.proofs.lemmas.Bool.{eqb-false}
-use Rattle.port_tables.specs.Lists.{filter, Member, Once, Rising}
+use Rattle.port_tables.specs.Lists.{Member, Once, Rising}
+use Rattle.std.specs.List.{filter}
 use Rattle.port_tables.specs.Entries.{same_side, new_count}
 use Rattle.port_tables.specs.declared.direction.Direction.{Direction}
 use Rattle.port_tables.specs.Listing.{member_map, length_map}
@@ -86,7 +87,6 @@ AllNamed l ws = (w : Wire) → Member w ws → WireNamed l w
 -- those of a book's wires that pass a test are those of the sketch's that pass the same one
 pub filter_renamed : (l : List Naming) (f g : Wire → Bool) → ((w : Wire) → WireNamed l w → f w ≡ g (wire_renamed l w)) → (ws : List Wire) → AllNamed l ws →
     renamed l (filter f ws) ≡ filter g (renamed l ws)
-unfolding filter
 filter_renamed l f g same [] h = refl
 filter_renamed l f g same (w ∷ ws) h = go (f w) (g (wire_renamed l w)) (same w (h w (inl refl))) (filter_renamed l f g same ws (λ v i. h v (inr i)))
   where

@@ -9,7 +9,7 @@ use Rattle.port_tables.specs.Lists.{Member}
 use Rattle.port_tables.specs.Entries.{ports_on}
 use Rattle.portgraph.specs.Lookups.{is_some}
 use Rattle.portgraph.specs.Model.{Model, Slots, gone, live, slot_of, count_of}
-use Rattle.portgraph.specs.GoodSlots.{slot_in_range}
+use Rattle.portgraph.specs.GoodSlots.{slot_in_range, node_below}
 use Rattle.portgraph.specs.PlaceLaws.{gone_has_no_meta}
 use Rattle.port_tables.specs.declared.direction.Direction.TheVariants.{Incoming}
 use Rattle.multiportgraph.specs.Ends.{block_seen, seen_dead}
@@ -20,7 +20,6 @@ use Rattle.multi_tables.specs.Forms.{Port, dead, hidden, visible}
 use Rattle.multiportgraph.specs.declared.multiportgraph.MultiPortGraph.{MultiPortGraph}
 use Rattle.theorems.specs.Book as book
 use Rattle.theorems.specs.Book.{Call, spot_of}
-use Rattle.theorems.specs.BookLaws.{so_not_false}
 use Rattle.theorems.proofs.WireRule.{spot_of_lem}
 use Rattle.sketches.specs.Plan.{has_block, ports_on_side, is_there}
 use Rattle.sketches.specs.declared.sketch.SketchPort.{SketchPort}
@@ -30,6 +29,7 @@ use Rattle.agreement.specs.Alike.{Alike}
 use Rattle.agreement.specs.Names.{naming}
 use Rattle.agreement.specs.Standing.{block_here, block_had, block_name, seen_name}
 use Rattle.agreement.specs.AddSquare.{there_of_block, block_given}
+use Rattle.std.proofs.lemmas.Bool.{false_from_ne_true}
 
 module _ {b : Both} {M : Model} (a : Alike b M) where
   abbrev m : MultiPortGraph
@@ -38,7 +38,7 @@ module _ {b : Both} {M : Model} (a : Alike b M) where
   -- a name that no block has
   fresh : has_block b.plan.blocks b.plan.adds ≡ false
   fresh =
-      so_not_false _ (λ t.
+      false_from_ne_true _ (λ t.
       let p = block_had b.plan.blocks b.plan.adds t in
       let g = block_given a p.0 p.1 in
       let e = p.2 in
@@ -49,7 +49,7 @@ module _ {b : Both} {M : Model} (a : Alike b M) where
 
   fresh_not_there : is_there b.plan fresh_port ≡ false
   unfolding fresh_port
-  fresh_not_there = so_not_false _ (λ t. true_not_false (there_of_block b.plan (record { block = b.plan.adds; side = Incoming; position = 0 }) t) fresh)
+  fresh_not_there = false_from_ne_true _ (λ t. true_not_false (there_of_block b.plan (record { block = b.plan.adds; side = Incoming; position = 0 }) t) fresh)
 
   -- From the engine.
 
@@ -72,7 +72,7 @@ module _ {b : Both} {M : Model} (a : Alike b M) where
       go : (v : Slots) → M.node n ≡ v → (k : ℕ) × BlockMeans b n k
       go gone e = (b.plan.adds, no_block (ap is_some (gone_has_no_meta a.rel.fine.good a.rel.fine.holds n e)) fresh)
       go (live c) e =
-          let shown : is_hidden m n ≡ false = so_not_false (is_hidden m n) h in
+          let shown : is_hidden m n ≡ false = false_from_ne_true (is_hidden m n) h in
           let k = block_name a n c (shown, e) in
           (k.0, same_block k.1)
 
@@ -98,7 +98,7 @@ module _ {b : Both} {M : Model} (a : Alike b M) where
     where
       go : (v : Slots) → M.node node_slots ≡ v → M.node node_slots ≡ gone
       go gone e = e
-      go (live c) e = let u = a.rel.fine.good.node_used node_slots c e in let l = a.rel.fine.good.nodes_fit in absurd (omega arith)
+      go (live c) e = let u = node_below a.rel.fine.good node_slots c e in absurd (omega arith)
 
   port_meant_by : (x : SketchPort) → (p : ℕ) × PortMeans b p x
   unfolding is_there

@@ -3,19 +3,20 @@ use Rattle.std.specs.Prelude.{◌≡◌, Bool, false, cond, List, [], ◌∷◌,
 use Rattle.std.proofs.Math.Path.{refl, ap}
 use Rattle.std.proofs.Common.{sym, ◌∙◌, inl, inr, eqb-true}
 use Rattle.std.proofs.Math.Bool.{true, not}
-use Rattle.port_tables.specs.Lists.{filter, Member}
+use Rattle.port_tables.specs.Lists.{Member}
+use Rattle.std.specs.List.{filter}
 use Rattle.port_tables.specs.declared.direction.Direction.{Direction}
 use Rattle.port_tables.specs.Listing.{member_filter}
 use Rattle.multiportgraph.specs.HiddenStays.{true_not_false}
 use Rattle.multiportgraph.specs.LinkCutLaws.{at_spot_here, at_spot_is}
 use Rattle.port_tables.specs.Places.{Place, Spot, spot, at_spot}
-use Rattle.theorems.specs.BookLaws.{so_not_false}
 use Rattle.sketches.specs.Plan.{Plan, port_at, spot_named, subports_among, subports_of, set_subports, with_splits}
 use Rattle.sketches.specs.declared.sketch.SketchPort.{SketchPort}
+use Rattle.std.proofs.lemmas.Bool.{false_from_ne_true}
 
 -- a sift that keeps what stands at a spot
 pub among_kept : (t : Place → Bool) (l : List Place) (s : Spot) → ((x : Place) → at_spot s x ≡ true → t x ≡ true) → subports_among (filter t l) s ≡ subports_among l s
-unfolding subports_among filter
+unfolding subports_among
 among_kept t [] s h = refl
 among_kept t (x ∷ l) s h = go (t x) (at_spot s x) refl refl (among_kept t l s h)
   where
@@ -28,7 +29,7 @@ among_kept t (x ∷ l) s h = go (t x) (at_spot s x) refl refl (among_kept t l s 
 
 -- a sift that leaves nothing there
 pub among_gone : (t : Place → Bool) (l : List Place) (s : Spot) → ((x : Place) → at_spot s x ≡ true → t x ≡ false) → subports_among (filter t l) s ≡ 0
-unfolding subports_among filter
+unfolding subports_among
 among_gone t [] s h = refl
 among_gone t (x ∷ l) s h = go (t x) (at_spot s x) refl refl (among_gone t l s h)
   where
@@ -106,13 +107,13 @@ module _ (K : Plan) (x : SketchPort) (c : ℕ) where
       away : (y : Place) → at_spot (spot n d i) y ≡ true → not (at_spot (spot_named x) y) ≡ true
       away y h =
           let p = at_spot_is n d i y h in
-          ap not (so_not_false (at_spot (spot_named x) y) (λ t. let q = at_spot_is x.block x.side x.position y t in other (sym q.0 ∙ p.0) (sym q.1 ∙ p.1) (sym q.2 ∙ p.2)))
+          ap not (false_from_ne_true (at_spot (spot_named x) y) (λ t. let q = at_spot_is x.block x.side x.position y t in other (sym q.0 ∙ p.0) (sym q.1 ∙ p.1) (sym q.2 ∙ p.2)))
 
       kept : subports_among others (spot n d i) ≡ subports_among K.splits (spot n d i)
       kept = among_kept (λ s. not (at_spot (spot_named x) s)) K.splits (spot n d i) away
 
       absent : at_spot (spot n d i) entry ≡ false
-      absent = so_not_false (at_spot (spot n d i) entry) (λ t. let q = at_spot_is n d i entry t in other q.0 q.1 q.2)
+      absent = false_from_ne_true (at_spot (spot n d i) entry) (λ t. let q = at_spot_is n d i entry t in other q.0 q.1 q.2)
 
       put : (t : Bool) → subports_among (cond t others (entry ∷ others)) (spot n d i) ≡ subports_among K.splits (spot n d i)
       put true = kept

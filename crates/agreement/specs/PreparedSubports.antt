@@ -23,7 +23,6 @@ use Rattle.portgraph.specs.GoodLaws.{good_add, next_slot_gone}
 use Rattle.portgraph.specs.SlotHolds.{add_law, add_where, place_holds, slot_room, block_room}
 use Rattle.portgraph.specs.PlaceLaws.{meta_of_node, port_index_is}
 use Rattle.port_tables.specs.declared.direction.Direction.{Direction}
-use Rattle.port_tables.specs.declared.direction.Direction.TheVariants.{Incoming, Outgoing}
 use Rattle.port_tables.specs.declared.index.NodeIndex.{NodeIndex}
 use Rattle.port_tables.specs.declared.index.PortIndex.{PortIndex}
 use Rattle.port_tables.specs.declared.node_entry.NodeMeta.{NodeMeta}
@@ -35,7 +34,7 @@ use Rattle.multiportgraph.specs.WellFormed.{inner#, copy_place, Fine, Seen, lift
 use Rattle.multiportgraph.specs.Graph.{with_graph}
 use Rattle.multiportgraph.specs.Ends.{Hangs, split_has_copy, one_copy, count_of_lem, port_of_lem, linked_is, unlinked_is, lift_place, outer_of_subport, outer_of_block}
 use Rattle.multiportgraph.specs.Needs.{need_of, copy_need}
-use Rattle.multiportgraph.specs.SplitLaws.{PreparedEnd, split_tables}
+use Rattle.multiportgraph.specs.SplitLaws.{PreparedEnd, split_tables, two_subports}
 use Rattle.multiportgraph.specs.RecountLaws.{set_recounts, growth#, grown, more_longer}
 use Rattle.port_tables.specs.Places.{Place}
 use Rattle.multiportgraph.specs.HiddenNodes.{copy_incoming, copy_outgoing, ready, split, split_by, split_under, split_port, lowest_free, enough, grow, grow_under, grown_by, recounted, reuse, reuse_under, prepare, prepare_under}
@@ -92,10 +91,6 @@ module _ {g : PortGraph} {M : Model} (good : Good M) (holds : Holds g M) (i o : 
       go true true false p q r c first e = absurd (zero_is_not_one (cc))
       go true false block p q r c first e = absurd (zero_is_not_one (cc))
       go false slot block p q r c first e = absurd (zero_is_not_one (cc))
-
-two_subports : (d : Direction) (k : NodeMeta) → k.incoming ≡ copy_incoming d → k.outgoing ≡ copy_outgoing d → ports_on k d ≡ 2
-two_subports Incoming k i o = i
-two_subports Outgoing k i o = o
 
 -- graphs with one node table have the same nodes
 nodes_by_table : {g h : PortGraph} {M N : Model} → Holds g M → Holds h N → g.node_meta ≡ h.node_meta → (n : ℕ) → N.node n ≡ M.node n

@@ -11,17 +11,18 @@ use Rattle.port_tables.specs.declared.node_entry.NodeMeta.{NodeMeta}
 use Rattle.multiportgraph.specs.Calls.{drop_block}
 use Rattle.multiportgraph.specs.WellFormed.{copy_place, Fine, BlockIs, Seen, SameBlocks}
 use Rattle.multiportgraph.specs.Ends.{main_seen, split_has_copy}
-use Rattle.multiportgraph.specs.HiddenStays.{plain_frame, frame_fine, hidden_below, split_below, true_not_false}
-use Rattle.multiportgraph.specs.CopyLaws.{copy_goes, unsplit_split, unsplit_whole, removed_holds}
+use Rattle.multiportgraph.specs.HiddenStays.{plain_frame, frame_fine, hidden_below, split_below, true_not_false, same_slot}
+use Rattle.multiportgraph.specs.CopyLaws.{copy_goes, unsplit_split, removed_holds}
 use Rattle.multiportgraph.specs.Graph.{with_graph}
 use Rattle.multiportgraph.specs.HiddenNodes.{remove_copy, unsplit, unsplit_range}
 use Rattle.multiportgraph.specs.Reading.{is_hidden, is_split}
 use Rattle.multiportgraph.specs.declared.multiportgraph.MultiPortGraph.{MultiPortGraph}
 use Rattle.theorems.specs.RemoveLaws.{port_of_block, range_passed, block_unsplit}
 use Rattle.agreement.specs.Alike.{subports_at}
-use Rattle.agreement.specs.KeptSplits.{split_kept, same_subports, same_slot}
+use Rattle.agreement.specs.KeptSplits.{split_kept, same_subports}
 use Rattle.agreement.specs.Carry.{seen_still}
 use Rattle.agreement.specs.CutSquares.{copy_keeps_splits}
+use Rattle.multiportgraph.specs.CopySteps.{unsplit_plain}
 
 -- the ports of all other blocks have as many subports
 abbrev Others : MultiPortGraph → Model → MultiPortGraph → Model → ℕ → Type 0
@@ -39,7 +40,7 @@ range_splits (suc j) {m} {M} f n k b p low high =
         → (t : Bool) → is_split m p ≡ t → (x : model.InnerPlace) × Seen m M x × (slot_of M.node x ≡ p) × (x.node ≡ n)
         → (M' : Model) × Fine (unsplit_range (unsplit m p) (suc p) j) M' × SameBlocks m M (unsplit_range (unsplit m p) (suc p) j) M' × Others m M (unsplit_range (unsplit m p) (suc p) j) M' n
     go rest false e x =
-        subst (λ (u : MultiPortGraph). (M' : Model) × Fine (unsplit_range u (suc p) j) M' × SameBlocks m M (unsplit_range u (suc p) j) M' × Others m M (unsplit_range u (suc p) j) M' n) (sym (unsplit_whole m p e))
+        subst (λ (u : MultiPortGraph). (M' : Model) × Fine (unsplit_range u (suc p) j) M' × SameBlocks m M (unsplit_range u (suc p) j) M' × Others m M (unsplit_range u (suc p) j) M' n) (unsplit_plain m p e)
         (rest m M f b)
     go rest true e x =
         let h = split_has_copy f x.0 x.1 (ap (is_split m) x.2 ∙ e) in

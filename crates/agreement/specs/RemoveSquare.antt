@@ -5,7 +5,8 @@ use Rattle.std.proofs.Common.{◌∙◌, subst}
 use Rattle.std.proofs.Math.Bool.{not}
 use Rattle.std.proofs.Math.Logic.{⊎_elim}
 use borrow.Author.Tests.{eqb-true, eqb-false, ne_eqb}
-use Rattle.port_tables.specs.Lists.{filter, Member}
+use Rattle.port_tables.specs.Lists.{Member}
+use Rattle.std.specs.List.{filter}
 use Rattle.portgraph.specs.Model as model
 use Rattle.portgraph.specs.Model.{Model, Slots, count_of}
 use Rattle.portgraph.specs.PlaceLaws.{meta_of_node}
@@ -44,7 +45,7 @@ use Rattle.sketches.specs.declared.sketch.Reason.{Reason}
 
 -- a name that stays
 name_left : (l : List Naming) (n c : ℕ) → (c ≡ n → ⊥) → name_of (filter (λ (x : Naming). not (eqb x.node n)) l) c ≡ name_of l c
-unfolding name_of filter
+unfolding name_of
 name_left [] n c other = refl
 name_left (x ∷ l) n c other = go (eqb x.node n) (eqb x.node c) refl refl (name_left l n c other)
   where

@@ -1,6 +1,6 @@
 -- The square of a resize: the block has the counts named in both, wires and split ports at dropped positions go, a port that stays is as split as it was, and
 -- a new one is not split.
-use Rattle.std.proofs.lemmas.Bool.{cases_eq}
+use Rattle.std.proofs.lemmas.Bool.{cases_eq, false_from_ne_true}
 use Rattle.std.specs.Prelude.{◌≡◌, Bool, cond, List, [], ◌∷◌, map, ◌⊎◌, ℕ, ◌+◌, ◌≤◌, ◌<◌, leb, take, drop, Result, Ok, Err}
 use Rattle.std.proofs.Math.Path.{refl, sym, ap, subst}
 use Rattle.std.proofs.Common.{◌∙◌, inl, inr, ⊎_elim}
@@ -9,7 +9,8 @@ use native.Mathlib.Omega.{arith}
 use Rattle.std.proofs.Math.Dec.{eqb, ltb}
 use borrow.Author.Tests.{eqb-true, eqb-false, eq-eqb, ne_eqb, leb-true, leb-false, ltb-true, lt-ltb, lt-leb}
 use Rattle.port_tables.specs.Limits.{port_slots, node_ports, present}
-use Rattle.port_tables.specs.Lists.{filter, Member}
+use Rattle.port_tables.specs.Lists.{Member}
+use Rattle.std.specs.List.{filter}
 use Rattle.port_tables.specs.Entries.{ports_on, new_count}
 use Rattle.portgraph.specs.Lookups.{meta_at}
 use Rattle.portgraph.specs.Model as model
@@ -40,7 +41,7 @@ use Rattle.multi_tables.specs.declared.answers.Refusal.{Refusal}
 use Rattle.multi_tables.specs.declared.answers.Refusal.TheVariants.{TooManyPorts, MovesTooShort, NoRoom}
 use Rattle.theorems.specs.Book as book
 use Rattle.theorems.specs.Book.{not_block, book_set}
-use Rattle.theorems.specs.BookLaws.{not_so_true, so_not_false}
+use Rattle.theorems.specs.BookLaws.{not_so_true}
 use Rattle.theorems.specs.Conditions.{SetRefused, set_many, set_gone, set_hidden, set_short, set_full}
 use Rattle.theorems.proofs.ReleaseRuns.{step_keeps}
 use Rattle.theorems.proofs.SetCall.{set_refuses, set_refused_lem}
@@ -181,7 +182,7 @@ module _ {b : Both} {M : Model} (a : Alike b M) (n k i o : ℕ) where
       unfolding is_there
       new_port q invalid =
           among_none b.plan.splits (spot x.name y.side y.pos)
-          (λ t i. so_not_false _ (λ z.
+          (λ t i. false_from_ne_true _ (λ z.
           let u = at_spot_is x.name y.side y.pos t z in
           let c : ports_on_side b.plan.blocks t.node t.side ≡ ports_on h.meta y.side =
           ap (λ (v : ℕ). ports_on_side b.plan.blocks v t.side) (u.0 ∙ its_name x j (e ∙ q)) ∙ (h.counts t.side ∙ ap (ports_on h.meta) u.1) in
@@ -196,7 +197,7 @@ module _ {b : Both} {M : Model} (a : Alike b M) (n k i o : ℕ) where
 
           whole : subports_at g N y ≡ 0
           whole =
-              rw (so_not_false (is_split g (slot_of N.node y))
+              rw (false_from_ne_true (is_split g (slot_of N.node y))
               (λ t. let c = split_has_copy fine y s' t in invalid (a.rel.fine.good.join_valid y _ (were y _ c.back)))) refl
 
       at_block : y.node ≡ n → Counted

@@ -16,18 +16,16 @@ use Rattle.port_tables.specs.declared.direction.Direction.TheVariants.{Outgoing}
 use Rattle.multiportgraph.specs.CountLaws.{visible_nodes_lem}
 use Rattle.multiportgraph.specs.WellFormed.{Fine, WireIn, outer}
 use Rattle.port_tables.specs.Listing.{Apart, apart_below, member_filter, member_range, length_map}
-use Rattle.multiportgraph.specs.LinkCutLaws.{to_same}
 use Rattle.port_tables.specs.Places.{Wire, at_spot, at_end}
 use Rattle.multiportgraph.specs.Reading.{seen}
 use Rattle.multiportgraph.specs.Walks.{all_ports, is_seen}
-use Rattle.multiportgraph.specs.Wires.{blocks, is_block}
 use Rattle.multiportgraph.specs.declared.multiportgraph.MultiPortGraph.{MultiPortGraph}
 use Rattle.multi_tables.specs.declared.answers.Refusal.TheVariants.{NoRoom, MovesTooShort}
 use Rattle.theorems.specs.Book as book
 use Rattle.theorems.specs.Book.{Call}
 use Rattle.theorems.specs.Conditions.{RefusedBy}
 use Rattle.theorems.specs.History.{step}
-use Rattle.theorems.proofs.PortListing.{blocks_list, ascending_lists, visible_ports_ascending}
+use Rattle.theorems.proofs.PortListing.{ascending_lists, visible_ports_ascending}
 use Rattle.sketches.specs.Plan.{Plan, has_block, ports_in_all, is_there, subports_of, lacks_offset, input_taken, Far, nothing, far, far_from, spot_named, offset_read, ready}
 use Rattle.sketches.specs.PlanCalls as sketch
 use Rattle.sketches.specs.PlanCalls.{Sketched, leaves, most_adds, is_full, is_wired, bad_offset, recount, port_found, end_found}
@@ -42,6 +40,8 @@ use Rattle.agreement.specs.SetSquare as set_square
 use Rattle.agreement.specs.LooksCounts.{same_nodes_count, same_ports_count}
 use Rattle.sketches.specs.declared.sketch.Reason.{Reason}
 use Rattle.sketches.specs.declared.sketch.SketchEnd.{SketchEnd}
+use Rattle.portgraph.specs.Joins.{to_same}
+use Rattle.multiportgraph.specs.WalkRule.{blocks_are_few}
 
 -- How much there can be.
 
@@ -110,12 +110,6 @@ module _ {m : MultiPortGraph} {M : Model} (f : Fine m M) where
       (λ e. let z = slot_in_range f.good g.2.y (joined_is_valid f.good g.2.x g.2.y g.2.joined) in omega arith) g.3) in
       omega arith
 
-  nodes_few : length (blocks m) ≤ node_slots
-  unfolding blocks
-  nodes_few =
-      apart_below node_slots (blocks m) (blocks_list f).once
-      (λ n i. let k = member_range n 0 node_slots (member_filter (is_block m) n (range 0 node_slots) i).0 in omega arith)
-
   ports_few : length (all_ports m) ≤ port_slots
   unfolding all_ports
   ports_few =
@@ -124,7 +118,7 @@ module _ {m : MultiPortGraph} {M : Model} (f : Fine m M) where
 
 module _ {b : Both} {M : Model} (a : Alike b M) where
   pub few_blocks : length b.plan.blocks ≤ node_slots
-  few_blocks = let e = same_nodes_count a in let v = visible_nodes_lem a.rel.fine in let n = nodes_few a.rel.fine in omega arith
+  few_blocks = let e = same_nodes_count a in let v = visible_nodes_lem a.rel.fine in let n = blocks_are_few b.kit.graph in omega arith
 
   pub few_ports : ports_in_all b.plan.blocks ≤ port_slots
   few_ports = let e = same_ports_count a in let v = visible_ports_ascending a.rel.fine in let n = ports_few a.rel.fine in omega arith

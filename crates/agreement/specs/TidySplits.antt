@@ -19,23 +19,24 @@ use Rattle.port_tables.specs.declared.direction.Direction.{Direction}
 use Rattle.portgraph.specs.declared.portgraph.PortGraph.{PortGraph}
 use Rattle.multiportgraph.specs.CopyLaws.{CopyGone, copy_goes}
 use Rattle.multiportgraph.specs.Ends.{Hangs, hangs, split_has_copy, one_copy, ends_join_ends, end_side, unsplit_is_end, unlinked_is, linked_is, far_of}
-use Rattle.multiportgraph.specs.HiddenStays.{copy_side_is, true_not_false}
+use Rattle.multiportgraph.specs.HiddenStays.{copy_side_is, true_not_false, same_slot}
 use Rattle.multiportgraph.specs.Graph.{with_graph}
 use Rattle.multiportgraph.specs.HiddenNodes.{recounted, remove_copy, unsplit, enough}
 use Rattle.multiportgraph.specs.WellFormed.{inner#, copy_place, Fine, Seen, IsEnd}
-use Rattle.multiportgraph.specs.LinkCutLaws.{join_ends, to_same}
+use Rattle.multiportgraph.specs.LinkCutLaws.{join_ends}
 use Rattle.multiportgraph.specs.Reading.{is_hidden, is_split, copy_side, copy_node, subports, subport_at, far_port, has_link}
 use Rattle.multiportgraph.specs.RecountLaws.{set_recounts}
 use Rattle.multiportgraph.specs.SetLaws.{SameSplit}
 use Rattle.multiportgraph.specs.Tidy.{linked_up_to, subports_left, left_incoming, left_outgoing, drop_subports, link_directly, tidied}
 use Rattle.multiportgraph.specs.TidyLaws.{LastLinked, last_linked, empty_above, ShorterDone, drop_done, drop_within, drop_set, within_is, bare_is}
 use Rattle.multiportgraph.specs.declared.multiportgraph.MultiPortGraph.{MultiPortGraph}
-use Rattle.theorems.specs.BookLaws.{so_not_false}
 use Rattle.agreement.specs.Alike.{subports_at}
-use Rattle.agreement.specs.KeptSplits.{split_kept, same_subports, same_slot}
+use Rattle.agreement.specs.KeptSplits.{split_kept, same_subports}
 use Rattle.agreement.specs.Carry.{seen_still}
 use Rattle.agreement.specs.CutSquares.{copy_keeps_splits}
 use Rattle.agreement.specs.PreparedSubports.{linked_subports}
+use Rattle.std.proofs.lemmas.Bool.{false_from_ne_true}
+use Rattle.portgraph.specs.Joins.{to_same}
 
 -- Some subports stay.
 
@@ -66,7 +67,7 @@ module _ {m : MultiPortGraph} {M : Model} (f : Fine m M) (x : model.InnerPlace) 
   drop_others y s away =
       split_kept f f' y s
       (λ k. (flags_same k.copy ∙ k.is_copy, nodes_other k.copy (other k), drops.is.joins y ∙ k.back))
-      (λ e. so_not_false _ (λ t. whole e (split_has_copy f' y s' t)))
+      (λ e. false_from_ne_true _ (λ t. whole e (split_has_copy f' y s' t)))
     where
       f' : Fine shorter# drops.model
       f' = drops.is.fine
@@ -145,7 +146,7 @@ module _ {m : MultiPortGraph} {M : Model} (f : Fine m M) (x : model.InnerPlace) 
     far_left =
         record {
           valid = subst (λ (s : Slots). y.pos < count_of s y.side) (sym far_node) far_end#.valid;
-          unsplit = λ e. so_not_false _ (λ t.
+          unsplit = λ e. false_from_ne_true _ (λ t.
               true_not_false (went#.only_split (slot_of M.node y) (ap (is_split bare#) (sym far_slot#) ∙ t)) (far_end#.unsplit (sym (bare_hidden y.node elsewhere) ∙ e)));
           subport = λ e q.
               let hid : is_hidden m y.node ≡ true = sym (bare_hidden y.node elsewhere) ∙ e in

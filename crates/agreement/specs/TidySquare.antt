@@ -15,7 +15,7 @@ use Rattle.multiportgraph.specs.CaseLaws.{tidy_cases}
 use Rattle.multiportgraph.specs.Ends.{Hangs, one_copy, outer_of_block, outer_of_subport, lift_place, ends_join_ends, end_side}
 use Rattle.multiportgraph.specs.HiddenStays.{true_not_false}
 use Rattle.multiportgraph.specs.WellFormed.{inner#, Fine, Seen, lift, outer, IsEnd}
-use Rattle.multiportgraph.specs.LinkCutLaws.{nowhere_not_to, at_spot_is, end_is_here, end_is_same}
+use Rattle.multiportgraph.specs.LinkCutLaws.{at_spot_is, end_is_here, end_is_same}
 use Rattle.port_tables.specs.Places.{Place, Wire, Spot, spot, at_spot, at_end, touches, any_touches}
 use Rattle.multiportgraph.specs.Reading.{is_hidden, is_split, copy_side}
 use Rattle.multiportgraph.specs.Tidy as kit
@@ -49,6 +49,7 @@ use Rattle.agreement.specs.Carry.{alike_after, subports_set, set_there}
 use Rattle.agreement.specs.Asked.{wire_there}
 use Rattle.agreement.specs.TidySplits.{tidied_subports}
 use Rattle.sketches.specs.declared.sketch.Reason.{Reason}
+use Rattle.portgraph.specs.Joins.{nowhere_not_to}
 
 -- One more than the highest wired offset at a spot.
 

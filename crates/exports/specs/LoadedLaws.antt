@@ -4,7 +4,6 @@ use Rattle.std.specs.Prelude.{◌≡◌, refl, ℕ, ◌+◌, ◌*◌, ◌/◌, �
 use Rattle.std.proofs.Common.{sym, ◌∙◌, arith, length-append}
 use Rattle.std.proofs.Math.Path.{ap}
 use mathlib.Core.List.{List, [], ◌∷◌, ◌++◌, map, flat_map, append-nil}
-use Rattle.multiportgraph.specs.ScanLaws.{flat_map_append}
 use Rattle.multiportgraph.specs.declared.multiportgraph.MultiPortGraph.{MultiPortGraph}
 use Rattle.port_tables.specs.declared.release.Release.TheVariants.{One}
 use Rattle.theorems.specs.Book.{Call}
@@ -22,6 +21,7 @@ use Rattle.files.specs.ListingSteps.{loaded_few}
 use Rattle.files.specs.declared.load.LoadError.{LoadError}
 use Rattle.exports.specs.Exports.{graph_left, build_requests, file_requests, pair_requests}
 use Rattle.exports.specs.LoadedSteps.{build_split, requests_many}
+use Rattle.multiportgraph.specs.ScanLaws.{flat_map_map, flat_map_append}
 
 -- Requests read back.
 
@@ -53,16 +53,11 @@ link_request blocks w = record { code = 4; a = out_port blocks w; b = in_port bl
 abbrev requests_in : View → List Request
 requests_in v = map add_request v.blocks ++ map (link_request v.blocks) v.wires
 
-flat_map_map : {A : Type 0} (g : A → Request) (l : List A) → flat_map (λ x. request_words (g x)) l ≡ flat_map request_words (map g l)
-unfolding flat_map
-flat_map_map g [] = refl
-flat_map_map g (x ∷ l) = ap (λ k. request_words (g x) ++ k) (flat_map_map g l)
-
 bytes_are : (v : View) → build_requests v ≡ bytes_of (flat_map request_words (requests_in v))
 unfolding build_requests
 bytes_are v =
     ap bytes_of
-    ((λ j. flat_map_map add_request v.blocks j ++ flat_map_map (link_request v.blocks) v.wires j)
+    ((λ j. sym (flat_map_map request_words add_request v.blocks) j ++ sym (flat_map_map request_words (link_request v.blocks) v.wires) j)
     ∙ sym (flat_map_append request_words (map add_request v.blocks) (map (link_request v.blocks) v.wires)))
 
 -- what is read of them, and of what follows

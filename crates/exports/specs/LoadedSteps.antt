@@ -151,7 +151,7 @@ pub records_refused : (file requests : List ℕ) {r : LoadError} → Err r ≡ l
 unfolding records_return records_written list_build
 records_refused file requests isListed f = let e = refused_as _ (load_answer One file) isListed in rw e (f, refl)
 
-module _ (file requests : List ℕ) (listed : Shape) (isListed : Ok listed ≡ list_build One file) where
+module _ (file : List ℕ) {listed : Shape} (isListed : Ok listed ≡ list_build One file) where
   loaded : load_answer One file ≡ Ok tt
   unfolding list_build
   loaded = (listed_as (load_answer One file) isListed).0
@@ -166,15 +166,13 @@ module _ (file requests : List ℕ) (listed : Shape) (isListed : Ok listed ≡ l
   wires_many : listed.wires ≡ length (unbytes file).wires
   wires_many = ap (λ (r : Shape). r.wires) said
 
-  pub records_few : (listed.blocks ≤ node_slots) × (2 * listed.wires ≤ port_slots)
-  records_few =
-      let h = loaded_few One file (ap is_ok loaded) in
-      let a = blocks_many in
-      let b = wires_many in
-      let x = h.0 in
-      let y = h.1 in
-      (omega arith, omega arith)
+  pub adds_few : listed.blocks ≤ node_slots
+  adds_few = let h = loaded_few One file (ap is_ok loaded) in let a = blocks_many in omega (arith, h.0)
 
+  pub links_few : 2 * listed.wires ≤ port_slots
+  links_few = let h = loaded_few One file (ap is_ok loaded) in let a = wires_many in omega (arith, h.1)
+
+module _ (file requests : List ℕ) (listed : Shape) (isListed : Ok listed ≡ list_build One file) where
   abbrev adds : List ℕ
   adds = flat_map add_pair (unbytes file).blocks
 
@@ -182,16 +180,16 @@ module _ (file requests : List ℕ) (listed : Shape) (isListed : Ok listed ≡ l
   links = flat_map (link_pair (unbytes file).blocks) (unbytes file).wires
 
   pub adds_long : length adds ≡ 2 * listed.blocks
-  adds_long = let a = pairs_long add_pair (λ b. refl) (unbytes file).blocks in let b = blocks_many in omega arith
+  adds_long = let a = pairs_long add_pair (λ b. refl) (unbytes file).blocks in let b = blocks_many file isListed in omega arith
 
   pub links_long : length links ≡ 2 * listed.wires
-  links_long = let a = pairs_long (link_pair (unbytes file).blocks) (λ w. refl) (unbytes file).wires in let b = wires_many in omega arith
+  links_long = let a = pairs_long (link_pair (unbytes file).blocks) (λ w. refl) (unbytes file).wires in let b = wires_many file isListed in omega arith
 
   first_long : length (pair_requests 1 adds) ≡ 20 * listed.blocks
-  first_long = let a = requests_many 1 add_pair (λ b. refl) (unbytes file).blocks in let b = blocks_many in omega arith
+  first_long = let a = requests_many 1 add_pair (λ b. refl) (unbytes file).blocks in let b = blocks_many file isListed in omega arith
 
   second_long : length (pair_requests 4 links) ≡ 20 * listed.wires
-  second_long = let a = requests_many 4 (link_pair (unbytes file).blocks) (λ w. refl) (unbytes file).wires in let b = wires_many in omega arith
+  second_long = let a = requests_many 4 (link_pair (unbytes file).blocks) (λ w. refl) (unbytes file).wires in let b = wires_many file isListed in omega arith
 
   whole_long : length (file_requests file) ≡ 20 * (listed.blocks + listed.wires)
   whole_long =
@@ -202,7 +200,7 @@ module _ (file requests : List ℕ) (listed : Shape) (isListed : Ok listed ≡ l
 
   pub records_short : length requests < 20 * (listed.blocks + listed.wires) → (refused_with 15 ≡ records_return file requests) × (requests ≡ records_written file requests)
   unfolding records_return records_written list_after
-  records_short h = let n = whole_long in let t = lt-leb (length (file_requests file)) (length requests) (omega arith) in (rw (loaded, t) refl, rw (loaded, t) refl)
+  records_short h = let n = whole_long in let t = lt-leb (length (file_requests file)) (length requests) (omega arith) in (rw (loaded file isListed, t) refl, rw (loaded file isListed, t) refl)
 
   module _ (numbers : List ℕ) (areNumbers : numbers ≡ build_after One file no_numbers) where
     numbers_are : numbers ≡ adds ++ (links ++ drop (length (adds ++ links)) no_numbers)
@@ -212,19 +210,9 @@ module _ (file requests : List ℕ) (listed : Shape) (isListed : Ok listed ≡ l
         let b = links_long in
         let c = length-append adds links in
         let d = length-replicate {A = ℕ} build_most 0 in
-        let f = records_few in
-        let x = f.0 in
-        let y = f.1 in
-        areNumbers ∙ rw (loaded, le-leb (length (adds ++ links)) (length no_numbers) (omega arith)) (append_assoc adds links (drop (length (adds ++ links)) no_numbers))
-
-    pub numbers_room : 2 * (listed.blocks + listed.wires) ≤ length numbers
-    numbers_room =
-        let a = adds_long in
-        let b = links_long in
-        let past = drop (length (adds ++ links)) no_numbers in
-        let c = ap length numbers_are ∙ length-append adds (links ++ past) in
-        let d = length-append links past in
-        omega arith
+        let x = adds_few file isListed in
+        let y = links_few file isListed in
+        areNumbers ∙ rw (loaded file isListed, le-leb (length (adds ++ links)) (length no_numbers) (omega arith)) (append_assoc adds links (drop (length (adds ++ links)) no_numbers))
 
     pub adds_are : take (2 * listed.blocks) numbers ≡ adds
     adds_are = ap (take (2 * listed.blocks)) numbers_are ∙ take_at adds _ (2 * listed.blocks) adds_long
@@ -261,4 +249,4 @@ module _ (file requests : List ℕ) (listed : Shape) (isListed : Ok listed ≡ l
             laid₂ ∙ ((λ j. sets (laid₁ j) (isNext j) (pair_requests 4 (isSecond j)))
             ∙ (sets_append requests 0 (pair_requests 1 first) (pair_requests 4 links)
             ∙ ((λ j. sets requests 0 (pair_requests 1 (is_first j) ++ pair_requests 4 links)) ∙ ap (sets requests 0) (sym e)))) in
-            (rw (loaded, t) (sym n), rw (loaded, t) (s ∙ (sets-eq (file_requests file) requests 0 (omega arith) ∙ ap (λ (k : ℕ). file_requests file ++ drop k requests) y)))
+            (rw (loaded file isListed, t) (sym n), rw (loaded file isListed, t) (s ∙ (sets-eq (file_requests file) requests 0 (omega arith) ∙ ap (λ (k : ℕ). file_requests file ++ drop k requests) y)))

@@ -19,7 +19,7 @@ use Rattle.port_tables.specs.Listing.{member_map, map_member, member_flat_map, r
 use Rattle.multiportgraph.specs.ListReads.{blocks_length, wires_length}
 use Rattle.port_tables.specs.Places.{Place, spot}
 use Rattle.multi_tables.specs.Forms.{subport#}
-use Rattle.multiportgraph.specs.WalkRule.{listed_is_wire, wire_is_listed, listed_once}
+use Rattle.multiportgraph.specs.WalkRule.{listed_is_wire, wire_is_listed, listed_once, blocks_rise}
 use Rattle.multiportgraph.specs.Wires.{blocks, all_wires, side_links, place_of, wire_places, ports_of_side}
 use Rattle.multiportgraph.specs.declared.multiportgraph.MultiPortGraph.{MultiPortGraph}
 use Rattle.multi_tables.specs.declared.answers.SubportIndex.{SubportIndex}
@@ -30,7 +30,6 @@ use Rattle.theorems.proofs.ListingWires.{side_link}
 use Rattle.theorems.proofs.PortListing.{blocks_list}
 use Rattle.theorems.proofs.WireRule.{Rel, spot_of_lem}
 use Rattle.records.specs.Words.{bytes_of}
-use Rattle.files.specs.RankLaws.{blocks_rise}
 use Rattle.exports.specs.Viewed.{view_words, view_bytes}
 use Rattle.exports.specs.ViewedClaims.{ShownBlock, ShownEnd, ShownWire, Shown, fours, word_of, shown_block, shown_end, wires_of, words_read, view_read, ShownAs, place_shown, wire_shown, Shows}
 

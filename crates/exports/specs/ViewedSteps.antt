@@ -1,11 +1,10 @@
 -- What the proofs of the entry that writes views cite.
-use Rattle.std.specs.Prelude.{◌≡◌, ℕ, ◌+◌, ◌*◌, ◌%◌, ◌≤◌, ◌<◌, take, replicate}
+use Rattle.std.specs.Prelude.{◌≡◌, ℕ, ◌+◌, ◌*◌, ◌%◌, ◌≤◌, ◌<◌}
 use Rattle.std.proofs.Math.Path.{refl, ap}
-use Rattle.std.proofs.Common.{sym, ◌∙◌, length-take}
+use Rattle.std.proofs.Common.{sym, ◌∙◌}
 use mathlib.Core.List.{List, [], ◌∷◌, ◌++◌}
 use native.Mathlib.Omega.{arith}
 use Rattle.std.proofs.Math.ListN.{length, drop, length-append}
-use Rattle.std.proofs.lemmas.List.{length-replicate}
 use Rattle.std.proofs.Math.Seq.{sets, length-sets}
 use Rattle.std.proofs.lemmas.List.Edits.{sets-eq}
 use borrow.Author.Tests.{eq-eqb, ne_eqb, le-leb, lt-leb}
@@ -14,14 +13,14 @@ use Rattle.portgraph.specs.Model.{Model}
 use Rattle.port_tables.specs.ResizeLinkSteps.{sets_append}
 use Rattle.multiportgraph.specs.Calls.{visible_nodes, visible_links}
 use Rattle.multiportgraph.specs.CountLaws.{visible_nodes_lem, visible_links_lem}
-use Rattle.multiportgraph.specs.WellFormed.{Fine}
+use Rattle.multiportgraph.specs.WellFormed.{Fine, MultiWf}
 use Rattle.multiportgraph.specs.Listed.{blocks_listed, wires_listed, list_after}
-use Rattle.multiportgraph.specs.ListReads.{blocks_length, wires_length}
+use Rattle.multiportgraph.specs.ListReads.{blocks_length, wires_length, few_blocks}
 use Rattle.multiportgraph.specs.Wires.{blocks, all_wires}
 use Rattle.multiportgraph.specs.declared.multiportgraph.MultiPortGraph.{MultiPortGraph}
 use Rattle.records.specs.Words.{bytes_of}
 use Rattle.records.specs.WordLaws.{bytes_append, bytes_long}
-use Rattle.files.specs.SaveSteps.{listing_taken, listed_blocks, listed_wires, counts_few}
+use Rattle.files.specs.SaveSteps.{visible_links_few}
 use Rattle.exports.specs.Exports.{refused_with, graph_left, list_whole}
 use Rattle.exports.specs.Viewed.{view_words, view_bytes, view_told, view_return, view_written}
 
@@ -33,38 +32,7 @@ view_parts x y b w = bytes_append (x ∷ y ∷ b) w ∙ ap (λ (l : List ℕ). l
 pub counts_long : (view : List ℕ) (x y : ℕ) {view₁ : List ℕ} → view₁ ≡ sets view 0 (bytes_of (x ∷ y ∷ [])) → length view₁ ≡ length view
 counts_long view x y e = ap length e ∙ length-sets view 0 (bytes_of (x ∷ y ∷ []))
 
--- The listings of a graph, in lists that have room for every one.
-
 module _ {m : MultiPortGraph} {M : Model} (f : Fine m M) where
-  -- so many numbers are taken of the blocks' listing, and they are the blocks; it fits, and four bytes each
-  module _ (n : ℕ) (counted : n ≡ visible_nodes m) {list : List ℕ} (isList : list ≡ list_after (blocks_listed m) (replicate (4 * node_slots) 0)) where
-    pub blocks_taken : take (4 * n) list ≡ blocks_listed m
-    blocks_taken =
-        let h = listed_blocks f n counted in
-        let a = length-replicate {A = ℕ} (4 * node_slots) 0 in
-        let b = h.1 in
-        ap (take (4 * n)) isList ∙ listing_taken (blocks_listed m) (replicate (4 * node_slots) 0) (4 * n) h.0 (omega arith)
-
-    pub blocks_long : length (take (4 * n) list) ≡ 4 * n
-    blocks_long = ap length blocks_taken ∙ sym (listed_blocks f n counted).0
-
-    pub blocks_fit : (4 * n ≤ length list) × (4 * n ≤ 4 * node_slots)
-    blocks_fit = let h = listed_blocks f n counted in let a = h.0 in let b = h.1 in let c = blocks_long in let d = length-take (4 * n) list in (omega arith, omega arith)
-
-  module _ (n : ℕ) (counted : n ≡ visible_links m) {list : List ℕ} (isList : list ≡ list_after (wires_listed m) (replicate (4 * port_slots) 0)) where
-    pub wires_taken : take (8 * n) list ≡ wires_listed m
-    wires_taken =
-        let h = listed_wires f n counted in
-        let a = length-replicate {A = ℕ} (4 * port_slots) 0 in
-        let b = h.1 in
-        ap (take (8 * n)) isList ∙ listing_taken (wires_listed m) (replicate (4 * port_slots) 0) (8 * n) h.0 (omega arith)
-
-    pub wires_long : length (take (8 * n) list) ≡ 8 * n
-    wires_long = ap length wires_taken ∙ sym (listed_wires f n counted).0
-
-    pub wires_fit : (8 * n ≤ length list) × (8 * n ≤ 4 * port_slots)
-    wires_fit = let h = listed_wires f n counted in let a = h.0 in let b = h.1 in let c = wires_long in let d = length-take (8 * n) list in (omega arith, omega arith)
-
   pub listing_long : (view : List ℕ) {view' : List ℕ} → view' ≡ sets view 8 (bytes_of (blocks_listed m)) → length view' ≡ length view
   listing_long view e = ap length e ∙ length-sets view 8 (bytes_of (blocks_listed m))
 
@@ -82,7 +50,7 @@ module _ {m : MultiPortGraph} {M : Model} (f : Fine m M) where
 
   -- no view is so long that its length could be taken for a refusal
   pub view_most : 8 + 16 * visible_nodes m + 32 * visible_links m ≤ 8 + 16 * (node_slots + port_slots)
-  view_most = let h = counts_few f {n = visible_nodes m} {k = visible_links m} refl refl in let a = h.0 in let b = h.1 in omega arith
+  view_most = let w : MultiWf m = record { model = M; fine = f } in let a = few_blocks m w in let b = visible_links_few w in omega arith
 
   module _ (view : List ℕ) (blocks# wires# : ℕ) (areBlocks : blocks# ≡ visible_nodes m) (areWires : wires# ≡ visible_links m) where
     pub view_short : length view < 8 + 16 * blocks# + 32 * wires# → (refused_with 15 ≡ view_told m view) × (view ≡ list_after (view_bytes m) view)

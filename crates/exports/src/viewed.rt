@@ -21,6 +21,7 @@ const WIRE_WORDS: usize = 8 * MOST_WIRES;
 
 // Lays the blocks of a lent graph from a byte position on.
 // Stay two, this and the next: one for both would take the list as a closure, with its contract, and how many words an item has: longer than both.
+#[tactic(auto, using(files::specs::SaveSteps::blocks_first, files::specs::SaveSteps::blocks_long, multiportgraph::specs::ListReads::few_blocks))]
 fn put_blocks(left: &MultiPortGraph, view: &mut [u8], at: usize)
     requires { MultiWf left.now
         × (at + 16 * visible_nodes left.now ≤ length view.old) }
@@ -33,6 +34,7 @@ fn put_blocks(left: &MultiPortGraph, view: &mut [u8], at: usize)
 }
 
 // Lays the wires of a lent graph from a byte position on.
+#[tactic(auto, using(files::specs::SaveSteps::wires_first, files::specs::SaveSteps::wires_long, files::specs::SaveSteps::visible_links_few))]
 fn put_wires(left: &MultiPortGraph, view: &mut [u8], at: usize)
     requires { MultiWf left.now
         × (at + 32 * visible_links left.now ≤ length view.old) }
@@ -45,6 +47,7 @@ fn put_wires(left: &MultiPortGraph, view: &mut [u8], at: usize)
 }
 
 // Writes the view of a lent graph and answers its length, or 4,294,967,296 and 15 if the buffer is too short, which then stays as it was.
+#[tactic(auto, using(multiportgraph::specs::ListReads::few_blocks, files::specs::SaveSteps::visible_links_few, crate::specs::ViewedSteps::counts_long, crate::specs::ViewedSteps::listing_long))]
 fn view_in(left: &MultiPortGraph, view: &mut [u8]) -> u64
     requires { MultiWf left.now }
     ensures { (result ≡ view_told left.now view.old)

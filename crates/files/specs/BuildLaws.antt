@@ -1,7 +1,8 @@
 -- Laws of building: a view whose adds and links are all accepted is the view of the graph that they build.
 use Rattle.std.specs.Prelude.{◌≡◌, refl, Bool, List, [], ◌∷◌, ◌++◌, map, ◌⊎◌, ℕ, zero, suc, ◌+◌, ◌<◌, ltb, length, get_or, Result, Ok, Err}
 use Rattle.std.proofs.Common.{sym, ap, ◌∙◌, subst, inl, inr, ⊎_elim, arith}
-use Rattle.port_tables.specs.Lists.{range, filter, Member}
+use Rattle.port_tables.specs.Lists.{range, Member}
+use Rattle.std.specs.List.{filter}
 use Rattle.portgraph.specs.Model.{Model, Slots, count_of, first_of, side_start}
 use Rattle.portgraph.specs.GoodSlots.{zero_is_not_one}
 use Rattle.port_tables.specs.declared.direction.Direction.TheVariants.{Incoming, Outgoing}

@@ -2,7 +2,7 @@
 use Rattle.std.specs.Prelude.{◌≡◌, refl, ◌⊎◌, ◌↔◌, ℕ, suc, ◌+◌, ◌≤◌, ◌<◌, length, Result, Ok, Err}
 use Rattle.std.proofs.Common.{sym, ◌∙◌, arith, length-append}
 use Rattle.std.proofs.Math.Path.{ap, subst}
-use mathlib.Core.List.{List, [], ◌∷◌, ◌++◌, map}
+use mathlib.Core.List.{List, [], ◌∷◌, ◌++◌, map, map-append}
 use Rattle.std.proofs.Math.Logic.{inl, inr, ⊎_elim}
 use Rattle.port_tables.specs.Limits.{node_slots, port_slots, node_ports}
 use Rattle.port_tables.specs.Lists.{Member}
@@ -127,16 +127,12 @@ module _ {A : Type 0} (f : A → Call) where
       })
       (goes_or_stops (f x) (step s.graph (f x)).answer)
 
-  map_append : (a b : List A) → map f (a ++ b) ≡ map f a ++ map f b
-  map_append [] b = refl
-  map_append (x ∷ a) b = ap (λ (l : List Call). f x ∷ l) (map_append a b)
-
   stop_refuses : ((x : A) (v : AnswerOf (f x)) (r : Refusal) → RefusedBy (f x) v r → (rest : Result (Unit {0}) LoadError) → after_call (f x) v rest ≡ Err (Refused r)) →
       (xs : List A) (s : State) (r : Refusal) → Stop f s xs r → first_refusal s.graph (map f xs) ≡ Err (Refused r)
   unfolding first_refusal_under
   stop_refuses stops xs s r t =
       ap (λ (l : List A). first_refusal s.graph (map f l)) t.is
-      ∙ (ap (first_refusal s.graph) (map_append t.first (t.item ∷ t.later))
+      ∙ (ap (first_refusal s.graph) (map-append f t.first (t.item ∷ t.later))
       ∙ (refusal_after s (map f t.first) (map f (t.item ∷ t.later)) t.accepted ∙ stops t.item _ r t.refused _))
 
 add_stops : (b : BlockPorts) (v : Result (NodeIndex × PortIndex) Refusal) (r : Refusal) → v ≡ Err r → (rest : Result (Unit {0}) LoadError) → after_call (add_of b) v rest ≡ Err (Refused r)
@@ -379,7 +375,7 @@ shared_stops v sound s e =
     let l = subst (λ (k : List RankWire). first_refusal (run Two (map add_of v.blocks)).graph (map (link_of v.blocks) k) ≡ Ok tt) s.is a.1 in
     let b =
     accepted_apart (run Two (map add_of v.blocks)) (map (link_of v.blocks) s.first) (map (link_of v.blocks) (s.wire ∷ s.later))
-    (ap (first_refusal (run Two (map add_of v.blocks)).graph) (sym (map_append (link_of v.blocks) s.first (s.wire ∷ s.later))) ∙ l) in
+    (ap (first_refusal (run Two (map add_of v.blocks)).graph) (sym (map-append (link_of v.blocks) s.first (s.wire ∷ s.later))) ∙ l) in
     let p = part_accepted Two v s.first a.0 b.0 in
     let r = (build_refusals Two v sound InputWired).1 (build_wired s.first s.wire s.later s.is p refl s.earlier s.before s.same) in
     refused_not_loaded InputWired (sym r ∙ e)

@@ -26,7 +26,6 @@ use Rattle.files.specs.Loading.{unit_list, units_right, is_laid, ranks_right, bl
 use Rattle.files.specs.LaidLaws.{both_true}
 use Rattle.files.specs.Merging.{layout_answer}
 use Rattle.files.specs.NextSlots.{first_port_first, first_port_next}
-use Rattle.files.specs.ViewLaws.{blocks_few_lem}
 use Rattle.files.specs.LoadForms.{place_of, record_in, no_wire, BlocksRead, WiresRead, ShapeIs, Laid, graph_after, StepIs, StepStops, Built, Firsts, Linkable}
 use Rattle.files.specs.declared.load.LoadError.{LoadError}
 use Rattle.files.specs.declared.check.Shape.{Shape}
@@ -36,6 +35,7 @@ use Rattle.port_tables.specs.declared.index.NodeIndex.{NodeIndex}
 use Rattle.port_tables.specs.declared.index.PortIndex.{PortIndex}
 use Rattle.multi_tables.specs.declared.answers.Refusal.{Refusal}
 use Rattle.multi_tables.specs.declared.answers.SubportIndex.{SubportIndex}
+use Rattle.multiportgraph.specs.WalkRule.{blocks_are_few}
 
 -- What a `?` passes on.
 
@@ -381,7 +381,7 @@ adds_few release l h =
     let b = visible_nodes_of_history release calls in
     let f = (rel_run release calls).1.fine in
     let c = visible_nodes_lem f in
-    let d = blocks_few_lem f in
+    let d = blocks_are_few (run release calls).graph in
     omega arith
 
 module _ (release : Release) (v : View) where

@@ -2,7 +2,8 @@
 -- speak of the wire book, with rank in place of node: Req 05's words 'blocks by rank' and 'wires between ports, counted with repeats'.
 use Rattle.std.specs.Prelude.{◌≡◌, Bool, cond, false, List, [], ◌∷◌, ◌↔◌, ℕ, zero, suc, ◌+◌, ◌/◌, ◌≤◌, ◌<◌, eqb, ltb, length, get_or}
 use Rattle.port_tables.specs.Limits.{node_slots, port_slots, node_ports}
-use Rattle.port_tables.specs.Lists.{filter, Member, Rising}
+use Rattle.port_tables.specs.Lists.{Member, Rising}
+use Rattle.std.specs.List.{filter}
 use Rattle.port_tables.specs.Places.{Wire, flag}
 use Rattle.theorems.specs.Book.{Block, Book}
 use Rattle.theorems.specs.Claims.{count}

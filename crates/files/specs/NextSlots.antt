@@ -3,7 +3,8 @@
 use Rattle.std.specs.Prelude.{◌≡◌, refl, Bool, true, false, cond, List, [], ◌∷◌, map, ◌⊎◌, ℕ, zero, suc, ◌+◌, ◌≤◌, ◌<◌, leb, ltb, length, Ok, Result, Err}
 use Rattle.std.proofs.Common.{sym, ap, ◌∙◌, subst, inl, inr, ⊎_elim, arith, ne_eqb, leb-true, ltb-true, ltb-false, le-ltb}
 use Rattle.port_tables.specs.Limits.{node_slots, port_slots, node_ports, present}
-use Rattle.port_tables.specs.Lists.{range, filter, Member}
+use Rattle.port_tables.specs.Lists.{range, Member}
+use Rattle.std.specs.List.{filter}
 use Rattle.portgraph.specs.Model.{Model, Chain, number_of_first}
 use Rattle.port_tables.specs.Tables.{head_at}
 use Rattle.portgraph.specs.Meaning.{rest, growth, first_or, next_slot, next_block, add_model}
@@ -242,14 +243,14 @@ abbrev below : ℕ → Block → Bool
 below k b = ltb b.node k
 
 none_below : (k n p : ℕ) (bs : List BlockPorts) (l : List Block) → k ≤ n → length (filter (below k) (laid n p bs l)) ≡ length (filter (below k) l)
-unfolding laid filter
+unfolding laid
 none_below k n p [] l h = refl
 none_below k n p (b ∷ bs) l h =
     none_below k (suc n) (p + (b.incoming + b.outgoing)) bs (block_from n p b ∷ l) (omega arith)
     ∙ ap (λ (t : Bool). length (cond t (block_from n p b ∷ filter (below k) l) (filter (below k) l))) (le-ltb n k h)
 
 pub laid_rank : (k n p : ℕ) (bs : List BlockPorts) (l : List Block) → n ≤ k → k ≤ n + length bs → length (filter (below k) (laid n p bs l)) + n ≡ k + length (filter (below k) l)
-unfolding laid filter
+unfolding laid
 laid_rank k n p [] l h g = omega arith
 laid_rank k n p (b ∷ bs) l h g = go (ltb n k) refl (laid_rank k (suc n) (p + (b.incoming + b.outgoing)) bs (block_from n p b ∷ l))
   where
@@ -269,7 +270,6 @@ laid_rank k n p (b ∷ bs) l h g = go (ltb n k) refl (laid_rank k (suc n) (p + (
         omega arith
 
 laid_ranks : (k : ℕ) (bs : List BlockPorts) → k ≤ length bs → length (filter (λ (b : Block). ltb b.node k) (laid 0 0 bs [])) ≡ k
-unfolding filter
 laid_ranks k bs h = let e = laid_rank k 0 0 bs [] (omega arith) (omega arith) in omega arith
 
 -- From the empty graph.

@@ -1,11 +1,10 @@
 -- A build that is refused leaves less than the view says: each call enters one block or wire at most, and a refused one none.
-use Rattle.std.specs.Prelude.{◌≡◌, refl, Bool, true, false, cond, not, List, [], ◌∷◌, map, ℕ, suc, ◌+◌, ◌≤◌, ◌<◌, length, Err, Option, Some, None, Result, Ok}
+use Rattle.std.specs.Prelude.{◌≡◌, refl, Bool, not, List, [], ◌∷◌, map, ℕ, suc, ◌+◌, ◌≤◌, ◌<◌, length, Err, Option, Some, None, Result, Ok}
 use Rattle.std.proofs.Common.{sym, ap, ◌∙◌, ⊎_elim, arith, length-append}
-use Rattle.port_tables.specs.Lists.{filter}
 use Rattle.portgraph.specs.GoodSlots.{zero_is_not_one}
 use Rattle.multiportgraph.specs.Graph.{empty_graph}
 use Rattle.port_tables.specs.declared.release.Release.{Release}
-use Rattle.port_tables.specs.Listing.{length_map}
+use Rattle.port_tables.specs.Listing.{length_map, filter_shorter}
 use Rattle.port_tables.specs.Places.{Place, Wire, Spot, nowhere, spot, touches, at_spot, at_end, of_node, of_dropped, without, next_offset}
 use Rattle.multi_tables.specs.declared.answers.Refusal.{Refusal}
 use Rattle.theorems.specs.Book as book
@@ -26,22 +25,13 @@ use Rattle.multi_tables.specs.declared.answers.PortPlace.{PortPlace}
 abbrev pub entries : Book → ℕ
 entries B = length B.blocks + length B.wires
 
-filter_short : {A : Type 0} (f : A → Bool) (l : List A) → length (filter f l) ≤ length l
-unfolding filter
-filter_short f [] = omega arith
-filter_short f (x ∷ l) = go (f x) (filter_short f l)
-  where
-    go : (b : Bool) → length (filter f l) ≤ length l → length (cond b (x ∷ filter f l) (filter f l)) ≤ suc (length l)
-    go true h = omega arith
-    go false h = omega arith
-
 wire_one : (l : List Wire) (s : Spot) (o : ℕ) (t : Spot) (r : ℕ) → length (add_wire l s o t r) ≤ suc (length l)
 wire_one l nowhere o t r = omega arith
 wire_one l (spot n d i) o nowhere r = omega arith
 wire_one l (spot n d i) o (spot k e j) r = omega arith
 
 without_short : (f : Place → Bool) (l : List Wire) → length (without f l) ≤ length l
-without_short f l = filter_short (λ w. not (touches f w)) l
+without_short f l = filter_shorter (λ w. not (touches f w)) l
 
 link_one : (B : Book) (a b : ℕ) (v : Result (SubportIndex × SubportIndex) Refusal) → entries (book_link B a b v) ≤ suc (entries B)
 link_one B a b (Ok (s, t)) =
@@ -58,9 +48,9 @@ cut_none B f (Err r) = omega arith
 enters_one : (B : Book) (c : Call) (v : AnswerOf c) (marks : List Bool) (ports : List ℕ) → entries (book_answer B c v marks ports) ≤ suc (entries B)
 enters_one B (book.add_call i o) (Ok (n, p)) marks ports = omega arith
 enters_one B (book.add_call i o) (Err r) marks ports = omega arith
-enters_one B (book.remove_call n) (Ok tt) marks ports = let a = filter_short (not_block n) B.blocks in let b = without_short (of_node n) B.wires in omega arith
+enters_one B (book.remove_call n) (Ok tt) marks ports = let a = filter_shorter (not_block n) B.blocks in let b = without_short (of_node n) B.wires in omega arith
 enters_one B (book.remove_call n) (Err r) marks ports = omega arith
-enters_one B (book.set_call n i o room) (Ok e) marks ports = let a = filter_short (not_block n) B.blocks in let b = without_short (of_dropped n i o) B.wires in omega arith
+enters_one B (book.set_call n i o room) (Ok e) marks ports = let a = filter_shorter (not_block n) B.blocks in let b = without_short (of_dropped n i o) B.wires in omega arith
 enters_one B (book.set_call n i o room) (Err r) marks ports = omega arith
 enters_one B (book.link_call a b) v marks ports = link_one B a b v
 enters_one B (book.link_clean_call a b) v marks ports = link_one B a b v

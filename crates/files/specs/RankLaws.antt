@@ -4,19 +4,20 @@ use Rattle.std.proofs.Math.Path.{sym}
 use Rattle.std.proofs.Common.{ap, ◌∙◌, subst, inl, inr, arith, eqb-true, eq-eqb, ne_eqb, lt-ltb, le-ltb}
 use Rattle.std.proofs.Math.Dec.{ltb}
 use Rattle.std.proofs.lemmas.Bool.{eqb-false}
-use Rattle.port_tables.specs.Limits.{node_slots}
-use Rattle.port_tables.specs.Lists.{range, filter, Member, Rising}
+use Rattle.port_tables.specs.Lists.{Member, Rising}
+use Rattle.std.specs.List.{filter}
 use Rattle.portgraph.specs.Model.{Model}
 use Rattle.port_tables.specs.declared.node_entry.NodeMeta.{NodeMeta}
-use Rattle.multiportgraph.specs.Wires.{is_block, blocks}
+use Rattle.multiportgraph.specs.Wires.{blocks}
 use Rattle.multiportgraph.specs.WellFormed.{BlockIs}
-use Rattle.port_tables.specs.Listing.{Apart, member_filter, filter_member, filter_none, member_map, map_member, rising_filter, rising_map, range_rises}
+use Rattle.port_tables.specs.Listing.{Apart, member_filter, filter_member, filter_none, member_map, map_member, rising_filter, rising_map}
 use Rattle.multiportgraph.specs.declared.multiportgraph.MultiPortGraph.{MultiPortGraph}
 use Rattle.theorems.specs.Book.{Block, Book}
 use Rattle.theorems.proofs.WireRule.{OtherNode, Rel}
 use Rattle.theorems.proofs.PortListing.{same_length, blocks_list}
 use Rattle.files.specs.View.{rank_among}
 use Rattle.files.specs.Claims.{rank_in, At}
+use Rattle.multiportgraph.specs.WalkRule.{blocks_rise}
 
 -- Positions.
 
@@ -79,7 +80,7 @@ at_rank (k ∷ l) a (suc r) n h = rw (ne_eqb k n (a.0 n (at_member l r n h))) (a
 
 -- in an ascending list a rank is the number of smaller numbers
 pub rank_counts : (l : List ℕ) → Rising ◌<◌ l → (n : ℕ) → Member n l → rank_among l n ≡ length (filter (λ k. ltb k n) l)
-unfolding rank_among filter
+unfolding rank_among
 rank_counts [] r n never = absurd never
 rank_counts (k ∷ l) r n (inl p) =
     rw (eq-eqb k n (sym p), le-ltb k n (omega arith))
@@ -90,15 +91,10 @@ rank_counts (k ∷ l) r n (inr i) =
 
 -- The graph's blocks and the book's.
 
-pub blocks_rise : (m : MultiPortGraph) → Rising ◌<◌ (blocks m)
-unfolding blocks
-blocks_rise m = rising_filter ◌<◌ (is_block m) (range 0 node_slots) (range_rises 0 node_slots)
-
 abbrev pub node_of : Block → ℕ
 node_of b = b.node
 
 filter_nodes : (n : ℕ) (l : List Block) → length (filter (λ (b : Block). ltb b.node n) l) ≡ length (filter (λ k. ltb k n) (map node_of l))
-unfolding filter
 filter_nodes n [] = refl
 filter_nodes n (b ∷ l) = go (ltb b.node n) (filter_nodes n l)
   where

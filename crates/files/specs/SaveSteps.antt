@@ -1,6 +1,6 @@
 -- From the listings of a graph to its file: ranks off the table, the records of blocks and wires, and the buffer with both kinds of
 -- units in it.
-use Rattle.std.specs.Prelude.{◌≡◌, Bool, ◌⊎◌, set, take, max, Ok, Err}
+use Rattle.std.specs.Prelude.{◌≡◌, Bool, ◌⊎◌, set, take, replicate, Ok, Err}
 use Rattle.std.proofs.Math.Path.{refl, sym, ap, subst}
 use Rattle.std.proofs.Common.{◌∙◌, subst₂, inl, inr, mul-suc, length-append, length-set, take_at, get_or-append-add}
 use Rattle.std.proofs.Math.Bool.{true, false, cond}
@@ -11,7 +11,7 @@ use Rattle.std.proofs.Math.Dec.{eqb}
 use Rattle.std.proofs.Math.ListN.{length, get_or, drop, get_or-append}
 use Rattle.std.proofs.Math.Seq.{sets, get_or-set_same, get_or-set_other}
 use Rattle.std.proofs.lemmas.List.Edits.{sets-eq}
-use Rattle.std.proofs.lemmas.List.{set_at}
+use Rattle.std.proofs.lemmas.List.{set_at, length-replicate}
 use borrow.Author.Tests.{eqb-true, eqb-false, le-leb, lt-leb}
 use Rattle.std.proofs.lemmas.Simd.{map-map}
 use Rattle.port_tables.specs.Limits.{node_slots, port_slots, node_ports}
@@ -21,25 +21,25 @@ use Rattle.port_tables.specs.ResizeLinkSteps.{sets_append}
 use Rattle.port_tables.specs.declared.direction.Direction.TheVariants.{Incoming, Outgoing}
 use Rattle.port_tables.specs.Places.{Wire}
 use Rattle.multiportgraph.specs.Calls.{visible_nodes, visible_links}
-use Rattle.multiportgraph.specs.WellFormed.{Fine}
+use Rattle.multiportgraph.specs.WellFormed.{Fine, MultiWf}
 use Rattle.multiportgraph.specs.Wires.{blocks, all_wires, wires_walked, wire_places, place_of}
 use Rattle.multiportgraph.specs.Listed.{end_numbers, wire_numbers, wires_listed, block_numbers, blocks_listed, list_after}
-use Rattle.multiportgraph.specs.ListReads.{wires_length, blocks_length}
-use Rattle.port_tables.specs.Listing.{Apart, member_map, map_member, member_range, length_map, length_range}
+use Rattle.multiportgraph.specs.ListReads.{wires_length, blocks_length, block_length, wire_length, few_blocks}
+use Rattle.port_tables.specs.Listing.{Apart, member_map, map_member, member_range, length_map, length_range, numbers_apart}
 use Rattle.multiportgraph.specs.CountLaws.{visible_nodes_lem, visible_links_lem}
 use Rattle.multiportgraph.specs.declared.multiportgraph.MultiPortGraph.{MultiPortGraph}
 use Rattle.multi_tables.specs.declared.answers.SubportLink.{SubportLink}
-use Rattle.theorems.proofs.PortListing.{rising_apart}
 use Rattle.files.specs.View.{BlockPorts, RankWire, rank_among, sorted, block_ports, rank_wire, view_of}
 use Rattle.files.specs.Layout.{Record, block_record, wire_record, units_for, units_of, bytes_of, file_length, FieldsFit}
 use Rattle.files.specs.LayoutLaws.{units_length}
 use Rattle.files.specs.Saving.{file_of, save_answer, save_buffer}
 use Rattle.files.specs.Claims.{At}
 use Rattle.files.specs.OrderLaws.{sorted_member}
-use Rattle.files.specs.RankLaws.{at_member, rank_below, blocks_rise}
-use Rattle.files.specs.ViewLaws.{EndFits, walked_places, walked_fits, ports_small, node_in_use, blocks_few_lem, wires_few, file_length_is}
+use Rattle.files.specs.RankLaws.{at_member, rank_below}
+use Rattle.files.specs.ViewLaws.{EndFits, walked_places, walked_fits, ports_small, node_in_use, wires_few, file_length_is}
 use Rattle.files.specs.Forms.{number_of, record_of, turns, sorted_numbers, blocks_in, node_listed, block_listed, nodes_of, blocks_of, BlocksFit, rank_turn, block_turn, wires_in, wire_listed, wires_of, rank_read, WiresFit, wire_turn, Listings, wire_number}
 use Rattle.files.specs.SortSteps.{number_back, sorted_as_numbers}
+use Rattle.multiportgraph.specs.WalkRule.{blocks_rise, blocks_are_few}
 
 -- Ranks.
 
@@ -222,14 +222,6 @@ at_some (x ∷ l) zero h = (x, refl)
 at_some (x ∷ l) (suc i) h = at_some l i (omega arith)
 
 module _ (m : MultiPortGraph) where
-  block_four : (n : ℕ) → length (block_numbers m n) ≡ 4
-  unfolding block_numbers
-  block_four n = refl
-
-  wire_eight : (w : SubportLink) → length (wire_numbers m w) ≡ 8
-  unfolding wire_numbers end_numbers
-  wire_eight w = refl
-
   pub blocks_lent : blocks_in (blocks_listed m) ≡ length (blocks m)
   blocks_lent = let e = blocks_length m in omega arith
 
@@ -238,11 +230,11 @@ module _ (m : MultiPortGraph) where
 
   block_read : (j : ℕ) → j < 4 → (i n : ℕ) → At (blocks m) i n → get_or (blocks_listed m) (4 * i + j) 0 ≡ get_or (block_numbers m n) j 0
   unfolding blocks_listed
-  block_read j s i n h = listed_number 4 (block_numbers m) block_four j s (blocks m) i n h
+  block_read j s i n h = listed_number 4 (block_numbers m) (block_length m) j s (blocks m) i n h
 
   wire_read : (j : ℕ) → j < 8 → (i : ℕ) (w : SubportLink) → At (all_wires m) i w → get_or (wires_listed m) (8 * i + j) 0 ≡ get_or (wire_numbers m w) j 0
   unfolding wires_listed
-  wire_read j s i w h = listed_number 8 (wire_numbers m) wire_eight j s (all_wires m) i w h
+  wire_read j s i w h = listed_number 8 (wire_numbers m) (wire_length m) j s (all_wires m) i w h
 
   node_read : (i n : ℕ) → At (blocks m) i n → node_listed (blocks_listed m) i ≡ n
   unfolding block_numbers
@@ -304,8 +296,8 @@ module _ (m : MultiPortGraph) where
     unfolding wire_numbers end_numbers
     listings long =
         record {
-          few = let e = blocks_lent in let h = blocks_few_lem f in omega arith;
-          apart = subst (Rising Apart) (sym nodes_are) (rising_apart (blocks m) (blocks_rise m));
+          few = let e = blocks_lent in let h = blocks_are_few m in omega arith;
+          apart = subst (Rising Apart) (sym nodes_are) (numbers_apart (blocks m) (blocks_rise m));
           in_table = λ n i. let u = node_in_use f n (subst (λ (l : List ℕ). Member n l) nodes_are i) in omega arith;
           source = λ i h.
               let x = wire_there i h in
@@ -336,26 +328,13 @@ pub listing_taken : (numbers list : List ℕ) (n : ℕ) → n ≡ length numbers
 unfolding list_after
 listing_taken numbers list n e h = rw (le-leb (length numbers) (length list) h, e) (take_at numbers (drop (length numbers) list) (length numbers) refl)
 
--- lists for so many blocks and wires have room for fewer
-pub lists_long : {v w n k most m : ℕ} → n ≡ v → k ≡ w → most ≡ max n k → most ≤ m → (4 * v ≤ 4 * m) × (8 * w ≤ 8 * m) × (v ≤ m) × (w ≤ m)
-lists_long a b e h = (omega arith, omega arith, omega arith, omega arith)
-
 -- so many blocks and wires there are, and so many numbers are listed: there is room for them
 module _ {m : MultiPortGraph} {M : Model} (f : Fine m M) where
   pub slots_few : m.graph.node_len ≤ node_slots
   slots_few = let a = f.holds.node_len in let b = f.good.nodes_fit in omega arith
 
-  pub counts_few : {n k : ℕ} → n ≡ visible_nodes m → k ≡ visible_links m → (n ≤ node_slots) × (2 * k ≤ port_slots)
-  counts_few e h =
-      let a = visible_nodes_lem f in
-      let b = blocks_few_lem f in
-      let c = visible_links_lem f in
-      let d = wires_few f in
-      let g = ap length (walked_places f) ∙ length_map (wire_places m) (all_wires m) in
-      (omega arith, omega arith)
-
   pub listed_blocks : (n : ℕ) → n ≡ visible_nodes m → (4 * n ≡ length (blocks_listed m)) × (length (blocks_listed m) ≤ 4 * node_slots)
-  listed_blocks n e = let a = visible_nodes_lem f in let b = blocks_length m in let c = blocks_few_lem f in (omega arith, omega arith)
+  listed_blocks n e = let a = visible_nodes_lem f in let b = blocks_length m in let c = blocks_are_few m in (omega arith, omega arith)
 
   pub listed_wires : (n : ℕ) → n ≡ visible_links m → (8 * n ≡ length (wires_listed m)) × (length (wires_listed m) ≤ 4 * port_slots)
   listed_wires n e =
@@ -365,12 +344,32 @@ module _ {m : MultiPortGraph} {M : Model} (f : Fine m M) where
       let d = ap length (walked_places f) ∙ length_map (wire_places m) (all_wires m) in
       (omega arith, omega arith)
 
-  -- the parts of the lists that have the listings
-  pub blocks_taken : (list : List ℕ) {n : ℕ} {after : List ℕ} → n ≡ visible_nodes m → 4 * visible_nodes m ≤ length list → after ≡ list_after (blocks_listed m) list → take (4 * n) after ≡ blocks_listed m
-  blocks_taken list {n} e h p = let k = listed_blocks n e in ap (take (4 * n)) p ∙ listing_taken (blocks_listed m) list _ k.0 (omega arith)
+module _ {m : MultiPortGraph} (wf : MultiWf m) where
+  pub visible_links_few : 2 * visible_links m ≤ port_slots
+  visible_links_few = let h = listed_wires wf.fine _ refl in omega (arith, h.0, h.1)
 
-  pub wires_taken : (list : List ℕ) {n : ℕ} {after : List ℕ} → n ≡ visible_links m → 8 * visible_links m ≤ length list → after ≡ list_after (wires_listed m) list → take (8 * n) after ≡ wires_listed m
-  wires_taken list {n} e h p = let k = listed_wires n e in ap (take (8 * n)) p ∙ listing_taken (wires_listed m) list _ k.0 (omega arith)
+  -- the parts of the lists that have the listings
+  module _ {n room : ℕ} {list : List ℕ} where
+    pub blocks_taken : n ≡ visible_nodes m → 4 * visible_nodes m ≤ room → list ≡ list_after (blocks_listed m) (replicate room 0) → take (4 * n) list ≡ blocks_listed m
+    blocks_taken e h p = let k = listed_blocks wf.fine n e in let l = length-replicate {A = ℕ} room 0 in ap (take (4 * n)) p ∙ listing_taken (blocks_listed m) (replicate room 0) (4 * n) k.0 (omega arith)
+
+    pub wires_taken : n ≡ visible_links m → 8 * visible_links m ≤ room → list ≡ list_after (wires_listed m) (replicate room 0) → take (8 * n) list ≡ wires_listed m
+    wires_taken e h p = let k = listed_wires wf.fine n e in let l = length-replicate {A = ℕ} room 0 in ap (take (8 * n)) p ∙ listing_taken (wires_listed m) (replicate room 0) (8 * n) k.0 (omega arith)
+
+  -- and of lists that have room for every one
+  module _ {n : ℕ} (counted : n ≡ visible_nodes m) where
+    pub blocks_first : {list : List ℕ} → list ≡ list_after (blocks_listed m) (replicate (4 * node_slots) 0) → take (4 * n) list ≡ blocks_listed m
+    blocks_first e = let h = few_blocks m wf in blocks_taken {room = 4 * node_slots} counted (omega arith) e
+
+    pub blocks_long : length (blocks_listed m) ≡ 4 * n
+    blocks_long = sym (listed_blocks wf.fine n counted).0
+
+  module _ {n : ℕ} (counted : n ≡ visible_links m) where
+    pub wires_first : {list : List ℕ} → list ≡ list_after (wires_listed m) (replicate (4 * port_slots) 0) → take (8 * n) list ≡ wires_listed m
+    wires_first e = let h = visible_links_few in wires_taken {room = 4 * port_slots} counted (omega arith) e
+
+    pub wires_long : length (wires_listed m) ≡ 8 * n
+    wires_long = sym (listed_wires wf.fine n counted).0
 
 module _ {m : MultiPortGraph} {M : Model} (f : Fine m M) (buffer : List ℕ) (size : ℕ) (sized : size ≡ file_length (visible_nodes m) (visible_links m)) where
   pub save_short : length buffer < size → (Err (record {}) ≡ save_answer m buffer) × (buffer ≡ save_buffer m buffer)

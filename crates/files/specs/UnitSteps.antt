@@ -4,10 +4,10 @@ use Rattle.std.specs.Option.{option_map}
 use Rattle.std.specs.List.{IsSubsliceAt}
 use Rattle.std.specs.Prelude.{slice_index_or, fold, Option, Some, None, IfSome, ◌≡◌, Bool, true, false, leb, ℕ, suc, ◌+◌, ◌-◌, ◌*◌, ◌/◌, ◌%◌, ◌≤◌, ◌<◌, min, get_or, take, drop, replicate}
 use Rattle.std.proofs.Math.Path.{refl, sym, ap, subst}
-use Rattle.std.proofs.Common.{Bor, ◌∙◌, leb-true, leb-false, length-drop, drop_of_length-le, drop-cons, length-take-le, get_or-append-add, take_at, drop_at, take_all}
+use Rattle.std.proofs.Common.{Bor, ◌∙◌, leb-true, leb-false, length-drop, drop_of_length-le, drop-cons, length-take-le, take_at, drop_at, take_all}
 use mathlib.Core.List.{List, [], ◌∷◌, ◌++◌, map, flat_map, append_assoc, append-nil}
 use native.Mathlib.Omega.{arith}
-use Rattle.std.proofs.Math.ListN.{length, length-append, length-replicate, get_or-append}
+use Rattle.std.proofs.Math.ListN.{length, length-append, length-replicate}
 use Rattle.std.proofs.lemmas.List.{nil_from_length, map-append}
 use Rattle.std.proofs.Math.Seq.{sets, length-sets}
 use Rattle.std.proofs.lemmas.List.Edits.{sets-eq}

@@ -21,22 +21,22 @@ use Rattle.multiportgraph.specs.Calls.{visible_nodes, visible_links}
 use Rattle.multiportgraph.specs.WellFormed.{Fine, outer, IsEnd, WireIn}
 use Rattle.multiportgraph.specs.HiddenStays.{true_not_false}
 use Rattle.multiportgraph.specs.Ends.{count_of_lem, outer_seen, ends_join_ends, wires_by_out, wires_by_into, out_not_into}
-use Rattle.port_tables.specs.Listing.{Apart, apart_below, member_map, member_append, length_map, rising_append, rising_map, range_member, partners, length_range}
-use Rattle.multiportgraph.specs.WalkRule.{walk_is_listing, walked_is_wires, walked_once}
+use Rattle.port_tables.specs.Listing.{Apart, apart_below, member_map, member_append, length_map, rising_append, rising_map, range_member, partners, length_range, numbers_apart}
+use Rattle.multiportgraph.specs.WalkRule.{walk_is_listing, walked_is_wires, walked_once, blocks_rise, blocks_are_few}
 use Rattle.multiportgraph.specs.CountLaws.{visible_nodes_lem, visible_links_lem}
 use Rattle.multiportgraph.specs.declared.multiportgraph.MultiPortGraph.{MultiPortGraph}
 use Rattle.theorems.specs.Book.{Block, Book}
 use Rattle.theorems.specs.BookLaws.{same_count}
 use Rattle.theorems.specs.Claims.{count}
 use Rattle.theorems.proofs.WireRule.{Rel, seen_live}
-use Rattle.theorems.proofs.PortListing.{blocks_list, rising_apart}
+use Rattle.theorems.proofs.PortListing.{blocks_list}
 use Rattle.files.specs.View.{BlockPorts, RankWire, View, rank_among, sorted, block_ports, rank_wire, view_of}
 use Rattle.files.specs.Layout.{block_record, wire_record, units_for, file_length, FieldsFit, ViewFits}
 use Rattle.files.specs.Saving.{file_of}
 use Rattle.files.specs.LayoutLaws.{file_length_lem}
 use Rattle.files.specs.Claims.{rank_in, At, HasBlock, same_wire, how_many, wires_between, WithinLimits, longest_file}
 use Rattle.files.specs.OrderLaws.{sorted_counts, sorted_member, sorted_length}
-use Rattle.files.specs.RankLaws.{at_member, at_map, map_at, rank_below, rank_at, at_rank, blocks_rise, booked_block, rank_booked}
+use Rattle.files.specs.RankLaws.{at_member, at_map, map_at, rank_below, rank_at, at_rank, booked_block, rank_booked}
 
 -- Wires of the graph, as walked.
 
@@ -81,16 +81,13 @@ module _ {m : MultiPortGraph} {M : Model} (f : Fine m M) where
   node_in_use n i = let k = (blocks_list f).only n i in let u = f.good.node_used n k.0 k.1.1 in let v = f.holds.node_len in omega arith
 
   pub blocks_in_use : length (blocks m) ≤ m.graph.node_len
-  blocks_in_use = apart_below m.graph.node_len (blocks m) (rising_apart (blocks m) (blocks_rise m)) node_in_use
-
-  pub blocks_few_lem : length (blocks m) ≤ node_slots
-  blocks_few_lem = let u = blocks_in_use in let v = f.holds.node_len in let w = f.good.nodes_fit in omega arith
+  blocks_in_use = apart_below m.graph.node_len (blocks m) (numbers_apart (blocks m) (blocks_rise m)) node_in_use
 
   pub view_within : WithinLimits (view_of m)
   unfolding view_of block_ports
   view_within =
       record {
-        blocks_few = let e = length_map (block_ports m) (blocks m) in let h = blocks_few_lem in omega arith;
+        blocks_few = let e = length_map (block_ports m) (blocks m) in let h = blocks_are_few m in omega arith;
         incoming = λ b i. let g = member_map (block_ports m) b (blocks m) i in subst (λ (x : BlockPorts). x.incoming ≤ node_ports) (sym g.2) (ports_small g.0 Incoming);
         outgoing = λ b i. let g = member_map (block_ports m) b (blocks m) i in subst (λ (x : BlockPorts). x.outgoing ≤ node_ports) (sym g.2) (ports_small g.0 Outgoing);
         source = λ w i. (fits w i).0;
@@ -105,7 +102,7 @@ module _ {m : MultiPortGraph} {M : Model} (f : Fine m M) where
           let e = walked_fits g.0 g.1 in
           let a = rank_below (blocks m) g.0.out.node e.0.block in
           let b = rank_below (blocks m) g.0.into.node e.1.block in
-          let h = blocks_few_lem in
+          let h = blocks_are_few m in
           subst (λ (x : RankWire). (x.source < node_slots) × (x.output < node_ports) × (x.target < node_slots) × (x.input < node_ports)) (sym g.2)
           (omega arith, e.0.pos, omega arith, e.1.pos)
 
@@ -232,7 +229,7 @@ module _ {m : MultiPortGraph} {M : Model} (f : Fine m M) where
   unfolding file_length units_for longest_file
   file_length_most =
       let e = file_length_is in
-      let a = blocks_few_lem f in
+      let a = blocks_are_few m in
       let b = wires_few f in
       let c = visible_nodes_lem f in
       let d = visible_links_lem f ∙ (sym (length_map (wire_places m) (all_wires m)) ∙ ap length (sym (walked_places f))) in
@@ -288,7 +285,7 @@ module _ {m : MultiPortGraph} {M : Model} {B : Book} (r : Rel m M B) where
           let e = g.2 ∙ (ap (block_ports m) (sym s.2) ∙ side_counted s.0 s.1) in (
             s.0,
             s.1,
-            (ap (rank_in B) s.2 ∙ (sym (rank_booked r g.0 there) ∙ at_rank (blocks m) (rising_apart (blocks m) (blocks_rise m)) n g.0 g.1)),
+            (ap (rank_in B) s.2 ∙ (sym (rank_booked r g.0 there) ∙ at_rank (blocks m) (numbers_apart (blocks m) (blocks_rise m)) n g.0 g.1)),
             sym (ap (λ (x : BlockPorts). x.incoming) e),
             sym (ap (λ (x : BlockPorts). x.outgoing) e),
           )

@@ -160,7 +160,7 @@ module _ {bytes : List ℕ} {u n before i : ℕ} (r : WiresRead bytes u n) (w : 
     pub wire_room : place_of u i + 8 ≤ length bytes
     wire_room = r.there i h
 
-    module _ {at number : ℕ} {one : Record} (is_at : at ≡ place_of u i) (is_one : one ≡ record_in bytes at) (is_number : number ≡ number_of one) where
+    module _ {unit at number : ℕ} {one : Record} (is_unit : unit ≡ u) (is_at : at ≡ place_of unit i) (is_one : one ≡ record_in bytes at) (is_number : number ≡ number_of one) where
       abbrev next : RankWire
       next = wire_of one
 
@@ -168,7 +168,7 @@ module _ {bytes : List ℕ} {u n before i : ℕ} (r : WiresRead bytes u n) (w : 
       rest_on =
           let m = r.many in
           drop-cons (unbytes bytes).wires i no_wire (omega arith)
-          ∙ ap (λ (v : RankWire). v ∷ drop (suc i) (unbytes bytes).wires) (r.each i h ∙ (ap (λ (p : ℕ). wire_of (record_in bytes p)) (sym is_at) ∙ ap wire_of (sym is_one)))
+          ∙ ap (λ (v : RankWire). v ∷ drop (suc i) (unbytes bytes).wires) (r.each i h ∙ (ap (λ (p : ℕ). wire_of (record_in bytes p)) (sym (is_at ∙ ap (λ (v : ℕ). place_of v i) is_unit)) ∙ ap wire_of (sym is_one)))
 
       fit_on : wires_fit (unbytes bytes).blocks before (drop i (unbytes bytes).wires)
           ≡ (leb before number && (wire_fits (unbytes bytes).blocks next && wires_fit (unbytes bytes).blocks number (drop (suc i) (unbytes bytes).wires)))

@@ -7,6 +7,7 @@ ghost use Rattle.files.specs.Forms.{number_of, record_of, said};
 ghost use Rattle.files.specs.LoadForms.{record_in};
 
 // The field at a byte position.
+#[tactic(auto, unfolding(crate::specs::Layout::field_at))]
 pub(crate) fn field_at(bytes: &[u8], i: usize) -> u16
     requires { i + 2 ≤ length bytes.now }
     ensures { result ≡ field_at bytes.now i }
@@ -15,6 +16,7 @@ pub(crate) fn field_at(bytes: &[u8], i: usize) -> u16
 }
 
 // The word at a byte position.
+#[tactic(auto, unfolding(crate::specs::Layout::field_at, crate::specs::Layout::word_at))]
 pub(crate) fn word_at(bytes: &[u8], i: usize) -> u32
     requires { i + 4 ≤ length bytes.now }
     ensures { result ≡ word_at bytes.now i }

@@ -15,6 +15,7 @@ pub fn at(table: &[u32], i: usize) -> u32
 }
 
 // Enters the rank of each block of a listing. Here and below entries are stored by place: the definitions tell turn after turn what is stored where, also outside.
+#[tactic(auto, using(crate::specs::TurnSteps::turned))]
 pub(crate) fn fill_ranks(listed: &[u32], ranks: &mut [u32])
     requires { length listed.now ≤ 4294967295 }
     ensures { ranks.new ≡ turns (rank_turn listed.now) 0 (blocks_in listed.now) ranks.old }
@@ -26,6 +27,7 @@ pub(crate) fn fill_ranks(listed: &[u32], ranks: &mut [u32])
 
 // The records of the blocks of a listing, as numbers.
 // Stays beside that of wires: one for both would take what makes a number of an item as a closure, with its contract.
+#[tactic(auto, using(crate::specs::TurnSteps::turned))]
 pub(crate) fn block_numbers(listed: &[u32], numbers: &mut [u64])
     requires { (blocks_in listed.now ≤ length numbers.old) × BlocksFit listed.now }
     ensures { numbers.new ≡ turns (block_turn listed.now) 0 (blocks_in listed.now) numbers.old }
@@ -56,6 +58,7 @@ fn wire_number<'a>(wire: &'a [u32], ranks: &'a [u32]) -> u64
 }
 
 // The records of the wires of a listing, as numbers.
+#[tactic(auto, using(crate::specs::TurnSteps::turned))]
 pub(crate) fn wire_numbers<'a>(ends: &'a [u32], ranks: &'a [u32], numbers: &mut [u64])
     requires { (wires_in ends.now ≤ length numbers.old) × WiresFit ends.now ranks.now }
     ensures { numbers.new ≡ turns (wire_turn ends.now ranks.now) 0 (wires_in ends.now) numbers.old }

@@ -40,6 +40,7 @@ pub const LONGEST_FILE: usize = 512 * ((NODE_SLOTS + 62) / 63 + (MOST_WIRES + 62
 pub struct BufferShort;
 
 // The length of a file of so many blocks and wires.
+#[tactic(auto, unfolding(crate::specs::Layout::units_for, crate::specs::Layout::file_length))]
 pub(crate) fn file_length(blocks: usize, wires: usize) -> usize
     requires { (blocks ≤ port_slots) × (wires ≤ port_slots) }
     ensures { result ≡ file_length blocks wires }
@@ -85,6 +86,7 @@ fn put_wires<'a>(
 
 // Lays the file of a graph from the buffer's start on, by lists of these lengths: what the listings of blocks and of wires take, and as many numbers of records.
 // Three lengths, and the constants above: a const argument cannot be computed.
+#[tactic(auto, using(multiportgraph::specs::ListReads::few_blocks, crate::specs::SaveSteps::visible_links_few))]
 fn write_by<const LISTED: usize, const ENDS: usize, const NUMBERS: usize>(
     graph: &MultiPortGraph,
     buffer: &mut [u8],
@@ -117,6 +119,7 @@ fn write_by<const LISTED: usize, const ENDS: usize, const NUMBERS: usize>(
 }
 
 // Writes a graph to a lent buffer and answers the file's length; bytes past it keep their contents, and so does a buffer that is too short.
+#[tactic(auto, using(multiportgraph::specs::ListReads::few_blocks, crate::specs::SaveSteps::visible_links_few))]
 pub fn save(graph: &MultiPortGraph, buffer: &mut [u8]) -> Result<usize, BufferShort>
     requires { MultiWf graph.now }
     ensures { (result ≡ save_answer graph.now buffer.old)

@@ -11,6 +11,7 @@ use crate::bytes::{put_field, put_record, put_word, word_at};
 pub(crate) const UNIT_RECORDS: usize = 63;
 
 // So many units hold so many records.
+#[tactic(auto, using(crate::specs::UnitSteps::units_counted))]
 pub(crate) fn units_for(records: usize) -> usize
     ensures { result ≡ units_for records }
 {

@@ -13,7 +13,7 @@ use Rattle.portgraph.specs.Calls.{new_graph}
 use Rattle.portgraph.specs.Model as model
 use Rattle.portgraph.specs.Model.{Model, Slots, gone, live, Valid, slot_of, owner_of_who}
 use Rattle.portgraph.specs.GoodSlots.{zero_is_not_one}
-use Rattle.portgraph.specs.PlaceLaws.{port_of_place, gone_has_no_meta}
+use Rattle.portgraph.specs.PlaceLaws.{port_of_place, gone_has_no_meta, entry_of_none}
 use Rattle.port_tables.specs.declared.port_entry.PortEntry.TheVariants as port_variants
 use Rattle.multi_tables.specs.EndAnswers.{refusal_numbers}
 use Rattle.multiportgraph.specs.Graph.{empty_graph}
@@ -184,10 +184,6 @@ unfolding run_under
 kept_under low release calls = kept_from low calls (record { graph = empty_graph release; book = empty_book }) (empty_kept release)
 
 -- The slots beyond limits that hold the used lengths are free.
-
-entry_of_none : port_entry 0 ≡ port_variants.Free
-unfolding port_entry
-entry_of_none = refl
 
 module _ {L : Limits} {m : MultiPortGraph} {M : Model} (f : Fine m M) (w : Within L m.graph) where
   gone_beyond : (n : ℕ) → L.nodes ≤ n → M.node n ≡ gone

@@ -11,7 +11,8 @@ use Rattle.port_tables.specs.declared.direction.Direction.TheVariants.{Incoming,
 use Rattle.multi_tables.specs.TableReads.{run_down, count_beside, first_beside}
 use Rattle.multi_tables.specs.Forms.{sum_of}
 use Rattle.port_tables.specs.Lists.{range, Member}
-use Rattle.multi_tables.specs.TableReadSteps.{left_one, down_bound}
+use Rattle.multi_tables.specs.TableReadSteps.{down_bound}
+use Rattle.port_tables.specs.TableSteps.{left_one}
 
 -- A turn of each count.
 

@@ -1,32 +1,12 @@
 -- Marks of a node whose ports move: a kept port has its old mark at its new slot, new ports and slots left behind are unmarked,
 -- and every other slot keeps its mark.
-use Rattle.std.specs.Prelude.{◌≡◌, refl, List, [], ◌∷◌, Bool, true, ℕ, zero, suc, ◌+◌, ◌≤◌, ◌<◌, min, ◌-◌, get_or, length, set, leb, ltb}
+use Rattle.std.specs.Prelude.{◌≡◌, refl, List, Bool, true, ℕ, zero, suc, ◌+◌, ◌≤◌, ◌<◌, min, ◌-◌, get_or, length, set, leb, ltb}
 use Rattle.std.proofs.Common.{◌∙◌, subst, arith, length-set, get_or-set_other, get_or-set_same, ext_get_or, leb-true, leb-false, ltb-true, ltb-false}
 use Rattle.std.proofs.Math.Bool.{false}
 use Rattle.port_tables.specs.Tables.{fill}
 use Rattle.multi_tables.specs.Forms.{lay_range, lay_marks}
-use Rattle.port_tables.specs.TableSteps.{length_fill}
+use Rattle.port_tables.specs.TableSteps.{length_fill, get_d_fill_in, get_d_fill_out}
 use Rattle.port_tables.specs.declared.node_entry.NodeMeta.{NodeMeta}
-
--- A filled range of any list.
-
-pub get_d_fill_in {ℓ} : {A : Type ℓ} (l : List A) (i n s : ℕ) (v d : A) → s < length l → i ≤ s → s < i + n → get_or (fill l i n v) s d ≡ v
-unfolding fill
-get_d_fill_in [] i n s v d h a b = absurd (omega arith)
-get_d_fill_in (x ∷ l) zero zero s v d h a b = absurd (omega arith)
-get_d_fill_in (x ∷ l) zero (suc n) zero v d h a b = refl
-get_d_fill_in (x ∷ l) zero (suc n) (suc s) v d h a b = get_d_fill_in l zero n s v d (omega arith) (omega arith) (omega arith)
-get_d_fill_in (x ∷ l) (suc i) n zero v d h a b = absurd (omega arith)
-get_d_fill_in (x ∷ l) (suc i) n (suc s) v d h a b = get_d_fill_in l i n s v d (omega arith) (omega arith) (omega arith)
-
-pub get_d_fill_out {ℓ} : {A : Type ℓ} (l : List A) (i n s : ℕ) (v d : A) → (i ≤ s → s < i + n → ⊥) → get_or (fill l i n v) s d ≡ get_or l s d
-unfolding fill
-get_d_fill_out [] i n s v d h = refl
-get_d_fill_out (x ∷ l) zero zero s v d h = refl
-get_d_fill_out (x ∷ l) zero (suc n) zero v d h = absurd (h (omega arith) (omega arith))
-get_d_fill_out (x ∷ l) zero (suc n) (suc s) v d h = get_d_fill_out l zero n s v d (λ a b. h (omega arith) (omega arith))
-get_d_fill_out (x ∷ l) (suc i) n zero v d h = refl
-get_d_fill_out (x ∷ l) (suc i) n (suc s) v d h = get_d_fill_out l i n s v d (λ a b. h (omega arith) (omega arith))
 
 -- A range of marks laid into another list.
 

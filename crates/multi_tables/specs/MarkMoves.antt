@@ -14,8 +14,8 @@ use borrow.Author.Tests.{leb-true, leb-false, ltb-true, ltb-false}
 use Rattle.port_tables.specs.Tables.{Within, fill}
 use Rattle.multi_tables.specs.Forms.{lay_range, lay_kept, unmark_new, before_end, unmark_old, lay_marks}
 use Rattle.port_tables.specs.declared.node_entry.NodeMeta.{NodeMeta}
-use Rattle.multi_tables.specs.MarkLaws.{get_d_lay_range_out, get_d_fill_in, get_d_fill_out, length_lay_range, get_d_lay_range_in, length_lay_marks, lay_kept_in, lay_kept_out, lay_new, lay_old, lay_else}
-use Rattle.port_tables.specs.TableSteps.{length_fill}
+use Rattle.multi_tables.specs.MarkLaws.{get_d_lay_range_out, length_lay_range, get_d_lay_range_in, length_lay_marks, lay_kept_in, lay_kept_out, lay_new, lay_old, lay_else}
+use Rattle.port_tables.specs.TableSteps.{length_fill, get_d_fill_in, get_d_fill_out}
 
 -- a slot is among n from f on, or it is not
 pub within_cases : (f n s : ℕ) → Within f n s ⊎ (f ≤ s → s < f + n → ⊥)

@@ -8,17 +8,17 @@ use Prim.Native.Nat.{ℕ, ◌<◌, ◌+◌, ◌-◌, ◌≤◌, min, suc}
 use native.Mathlib.Omega.{arith}
 use Rattle.multi_tables.specs.Scans.{first_found, link_port, span_first, span_count, links_in, port_links_by, port_links_in, links_rest, beyond_in, block_links_in, wires_in}
 use Rattle.multi_tables.specs.declared.answers.SubportLink.{SubportLink}
-use Rattle.port_tables.specs.Lists.{filter, range}
-use Rattle.port_tables.specs.Listing.{filter_append}
+use Rattle.port_tables.specs.Lists.{range}
+use Rattle.std.specs.List.{filter}
 use Rattle.port_tables.specs.Limits.{port_slots, node_slots}
 use Rattle.port_tables.specs.Tables.{at}
 use Rattle.port_tables.specs.declared.direction.Direction.{Direction}
 use Rattle.port_tables.specs.declared.direction.Direction.TheVariants.{Outgoing}
 use Rattle.multi_tables.specs.Forms.{flag_at, wire_to, subport#, Port, visible}
 use Rattle.multi_tables.specs.TableReads.{seen_in, place_in, wire_in, wire_end_in}
-use Rattle.multi_tables.specs.TableReadSteps.{left_one, placed, wire_placed}
+use Rattle.multi_tables.specs.TableReadSteps.{placed, wire_placed}
 use Rattle.port_tables.specs.Entries.{fresh_slot, meta_of_entry, ports_from, ports_to}
-use Rattle.port_tables.specs.TableSteps.{at_outside}
+use Rattle.port_tables.specs.TableSteps.{at_outside, left_one}
 use Rattle.multi_tables.specs.declared.answers.SubportIndex.{SubportIndex}
 use Rattle.multi_tables.specs.declared.answers.PortPlace.{PortPlace}
 use Rattle.multi_tables.specs.declared.answers.Refusal.{Refusal}
@@ -27,30 +27,30 @@ use Rattle.port_tables.specs.declared.node_entry.NodeEntry.{NodeEntry}
 use Rattle.port_tables.specs.declared.node_entry.NodeMeta.{NodeMeta}
 use Rattle.port_tables.specs.declared.node_entry.NodeSlot.{NodeSlot}
 use Rattle.port_tables.specs.declared.node_entry.NodeEntry.TheVariants as node_variants
+use Rattle.std.proofs.lemmas.List.Elements.{filter-append}
 
 -- The first of two lists, one after the other.
 
-first_here : (a b : List SubportLink) (w : SubportLink) → first_found a ≡ Some w → first_found (a ++ b) ≡ Some w
+pub first_here : {A : Type 0} (a b : List A) (w : A) → first_found a ≡ Some w → first_found (a ++ b) ≡ Some w
 unfolding first_found
 first_here [] b w e = let z : ◌≡◌ {A = ℕ} 0 1 = cc in absurd (omega arith)
 first_here (x ∷ a) b w e = e
 
-first_later : (a b : List SubportLink) → first_found a ≡ None → first_found (a ++ b) ≡ first_found b
+pub first_later : {A : Type 0} (a b : List A) → first_found a ≡ None → first_found (a ++ b) ≡ first_found b
 unfolding first_found
 first_later [] b e = refl
 first_later (x ∷ a) b e = let z : ◌≡◌ {A = ℕ} 0 1 = cc in absurd (omega arith)
 
 pub filter_every : (l : List SubportLink) → filter (λ w. true) l ≡ l
-unfolding filter
 filter_every [] = refl
 filter_every (w ∷ l) = ap (λ r. w ∷ r) (filter_every l)
 
 module _ (t : SubportLink → Bool) where
   first_filter_here : (a b : List SubportLink) (w : SubportLink) → first_found (filter t a) ≡ Some w → first_found (filter t (a ++ b)) ≡ Some w
-  first_filter_here a b w e = ap first_found (filter_append t a b) ∙ first_here (filter t a) (filter t b) w e
+  first_filter_here a b w e = ap first_found (filter-append t a b) ∙ first_here (filter t a) (filter t b) w e
 
   first_filter_later : (a b : List SubportLink) → first_found (filter t a) ≡ None → first_found (filter t (a ++ b)) ≡ first_found (filter t b)
-  first_filter_later a b e = ap first_found (filter_append t a b) ∙ first_later (filter t a) (filter t b) e
+  first_filter_later a b e = ap first_found (filter-append t a b) ∙ first_later (filter t a) (filter t b) e
 
 -- a link that was found stands at its port
 pub port_below : (p k : ℕ) (r : Option SubportLink) → link_port p r ≡ p → p < k → 0 < k → link_port 0 r < k
@@ -67,11 +67,11 @@ module _ (links owners : List ℕ) (flags : List Bool) (t : SubportLink → Bool
   end_by y e h = ap at_end (ap Ok (sym h) ∙ e) ∙ ap (λ z. first_found (filter t (wire_to q z))) (wire_placed links owners flags s)
 
   pub end_outside : port_slots ≤ s → None ≡ first_found (filter t (wire_to q (wire_in links owners flags s)))
-  unfolding wire_in first_found filter
+  unfolding wire_in first_found
   end_outside h = rw (eq-eqb (at links s) 0 (sym (at_outside links s h)))
 
   pub end_nothing : {x : Option SubportIndex} → Ok x ≡ wire_end_in links owners flags s → x ≡ None → None ≡ first_found (filter t (wire_to q (wire_in links owners flags s)))
-  unfolding first_found filter
+  unfolding first_found
   end_nothing e h = end_by None e h
 
   module _ {x : Option SubportIndex} (to : SubportIndex) (e : Ok x ≡ wire_end_in links owners flags s) (h : x ≡ Some to) where
@@ -79,11 +79,11 @@ module _ (links owners : List ℕ) (flags : List Bool) (t : SubportLink → Bool
     given place = record { from = q; to = to; place = place }
 
     pub end_given : (place : PortPlace) → place ≡ place_in owners to.port.0 → t (given (place_in owners to.port.0)) ≡ true → Some (given place) ≡ first_found (filter t (wire_to q (wire_in links owners flags s)))
-    unfolding first_found filter
+    unfolding first_found
     end_given place k g = rw (sym (end_by (Some to) e h), g, k)
 
     pub end_passed : t (given (place_in owners to.port.0)) ≡ false → None ≡ first_found (filter t (wire_to q (wire_in links owners flags s)))
-    unfolding first_found filter
+    unfolding first_found
     end_passed g = rw (sym (end_by (Some to) e h), g)
 
 -- One port: a turn over its offsets.
@@ -104,7 +104,7 @@ module _ (links owners : List ℕ) (flags : List Bool) (t : SubportLink → Bool
   scan_found r w h e n = rw (left_one o end h) (n ∙ sym (first_filter_here t _ _ w (sym e ∙ n)))
 
   pub scan_done : end ≤ o → None ≡ first_found (filter t (links_in links owners flags p first o (end - o)))
-  unfolding links_in range flat_map filter first_found
+  unfolding links_in range flat_map first_found
   scan_done h = let a : end - o ≡ 0 = omega arith in rw a
 
 -- A row of ports.
@@ -116,7 +116,7 @@ module _ (marks : List Bool) (links owners : List ℕ) (flags : List Bool) where
     port_links_at s e = ap (λ x. first_found (filter t (port_links_by marks links owners flags p o x))) (sym e)
 
     pub port_links_none : port_links_by marks links owners flags p o (seen_in owners flags p) ≡ [] → None ≡ first_found (filter t (port_links_in marks links owners flags p o))
-    unfolding first_found filter
+    unfolding first_found
     port_links_none h = ap (λ l. first_found (filter t l)) (sym h) ∙ port_links_at (seen_in owners flags p) refl
 
     pub port_links_scanned : (n : ℕ) (d : Direction) (first end : ℕ) (r : Option SubportLink) → seen_in owners flags p ≡ visible n d
@@ -140,7 +140,7 @@ module _ (marks : List Bool) (links owners : List ℕ) (flags : List Bool) where
       row_found r w h e n = rw (left_one p stop h) (n ∙ sym (first_filter_here t _ _ w (sym e ∙ n)))
 
       pub row_done : stop ≤ p → None ≡ first_found (filter t (links_rest marks links owners flags p o (stop - p)))
-      unfolding links_rest filter first_found
+      unfolding links_rest first_found
       row_done h = let a : stop - p ≡ 0 = omega arith in rw a
 
   module _ (t : SubportLink → Bool) (from end held o : ℕ) where

@@ -18,7 +18,7 @@ use Rattle.multi_tables.specs.declared.seen.SeenPort.TheVariants as seen_port
 use Rattle.multi_tables.specs.declared.scans.LinkFilter.TheVariants as filters
 use Rattle.port_tables.specs.declared.node_entry.NodeEntry.TheVariants as node_variants
 
-unfoldable pub first_found : List SubportLink → Option SubportLink
+unfoldable pub first_found : {A : Type 0} → List A → Option A
 first_found [] = None
 first_found (w ∷ l) = Some w
 

@@ -15,6 +15,7 @@ use Rattle.multi_tables.specs.Forms.{subport#}
 use Rattle.multi_tables.specs.declared.answers.PortPlace.{PortPlace}
 use Rattle.multi_tables.specs.declared.answers.SubportIndex.{SubportIndex}
 use Rattle.multi_tables.specs.declared.answers.Refusal.{Refusal}
+use Rattle.port_tables.specs.TableSteps.{left_one}
 
 -- The loop of a run.
 
@@ -47,9 +48,6 @@ row_found t n None h = sym (row_all t 0 n (λ k a b. h k (omega arith) (omega ar
 row_found t n (Some i) (low, high, hit, passed) =
     let z : 0 + i ≡ i = omega arith in
     sym (row_stops t 0 n i high (rw z hit) (λ k a b. passed k a (omega arith)))
-
-pub left_one : (k n : ℕ) → k < n → n - k ≡ suc (n - (k + 1))
-left_one k n h = omega arith
 
 pub run_turn : (t : ℕ → Bool) (k n : ℕ) → k < n → t k ≡ true → k + in_row t k (n - k) ≡ k + 1 + in_row t (k + 1) (n - (k + 1))
 unfolding in_row

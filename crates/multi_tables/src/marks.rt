@@ -52,6 +52,7 @@ pub fn either_flagged(flags: &[bool; NODE_SLOTS], first: u32, second: u32) -> bo
 }
 
 // Unmarks `count` ports from `first` on.
+#[tactic(auto, using(crate::specs::FormSteps::part_filled))]
 fn unmark(marks: &mut [bool; PORT_SLOTS], first: usize, count: usize)
     requires { first + count ≤ port_slots }
     ensures { marks.new ≡ fill marks.old first count false }
@@ -60,6 +61,7 @@ fn unmark(marks: &mut [bool; PORT_SLOTS], first: usize, count: usize)
 }
 
 // Lays `count` marks, from `old` on, from `new` on, as they were before.
+#[tactic(auto, using(crate::specs::MarkMoves::copied_within, crate::specs::MarkMoves::lay_same))]
 fn move_marks(marks: &mut [bool; PORT_SLOTS], old: usize, new: usize, count: usize)
     requires { (old + count ≤ port_slots) × (new + count ≤ port_slots) }
     ensures { marks.new ≡ lay_range marks.old marks.old old new count }
@@ -81,6 +83,7 @@ pub struct Recount {
 
 impl Recount {
     // The marks of kept ports go to their new numbers; that side goes first which does not go where the other has yet to leave.
+    #[tactic(auto, using(crate::specs::MarkMoves::in_first, crate::specs::MarkMoves::out_first))]
     fn move_kept(self, marks: &mut [bool; PORT_SLOTS])
         ensures { marks.new ≡ lay_kept marks.old marks.old self.before self.after }
     {
@@ -101,6 +104,7 @@ impl Recount {
 
     // Unmarks the ports of each side that were not there before. How many are kept is worked out here and in `move_kept`, each of which needs other counts beside
     // them: a method for both would be two more names; no plainer.
+    #[tactic(auto, using(crate::specs::MarkMoves::new_unmarked))]
     fn unmark_new(self, marks: &mut [bool; PORT_SLOTS])
         ensures { marks.new ≡ unmark_new marks.old self.before self.after }
     {
@@ -114,6 +118,7 @@ impl Recount {
     }
 
     // Unmarks the old ports that come before the first new one, or after the last.
+    #[tactic(auto, using(crate::specs::MarkMoves::old_unmarked))]
     fn unmark_old(self, marks: &mut [bool; PORT_SLOTS])
         ensures { marks.new ≡ unmark_old marks.old self.before self.after }
     {
@@ -127,6 +132,7 @@ impl Recount {
     }
 
     // Each kept port has its mark at its new number; the node's other ports, old and new, are unmarked.
+    #[tactic(auto, using(crate::specs::MarkMoves::laid_in_place))]
     pub fn lay_marks(self, marks: &mut [bool; PORT_SLOTS])
         ensures { marks.new ≡ lay_marks marks.old self.before self.after }
     {

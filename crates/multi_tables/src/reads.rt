@@ -64,6 +64,7 @@ fn leap_down(owners: &[u32; PORT_SLOTS], owner: u32, from: usize) -> usize
 }
 
 // The same as `run_down` where the slots of an owner lie in a row: most of them are leapt over.
+#[tactic(auto, using(crate::specs::TableReadSteps::leap_bound, crate::specs::TableReadSteps::down_bound, crate::specs::TableReadSteps::row_told))]
 fn row_below(owners: &[u32; PORT_SLOTS], owner: u32, from: usize) -> usize
     ensures { result ≡ row_below owners.now owner from }
 {
@@ -160,6 +161,7 @@ fn first_unlinked(links: &[u32]) -> Option<usize>
 
 // The lowest offset from 0 whose port, counted from `first`, has no link; `count` where all have: its definition answers so, and that of
 // a free end compares it, so that an Option would be turned back; no plainer.
+#[tactic(auto, using(crate::specs::FormSteps::lowest_found))]
 pub fn lowest_unlinked(links: &[u32; PORT_SLOTS], first: usize, count: usize) -> usize
     requires { first + count ≤ port_slots }
     ensures { result ≡ lowest_unlinked links.now first 0 count }
@@ -255,7 +257,7 @@ impl WireTables<'_> {
     }
 
     // What an end is linked with.
-    #[tactic(auto, unfolding(crate::specs::TableReads::wire_end_in))]
+    #[tactic(auto, unfolding(crate::specs::TableReads::wire_end_in), using(crate::specs::TableReadSteps::end_wired))]
     pub fn wire_end_in(self, port: u32) -> Option<SubportIndex>
         ensures { Ok result ≡ wire_end_in self.entry.links.now self.entry.owners.now self.entry.flags.now port }
     {

@@ -1,7 +1,7 @@
 // The first link that a walk finds from a port and offset on, over lent tables: one offset, one port, a row of ports, a block.
 ghost use Rattle.std.specs.Prelude.{◌≡◌, ◌+◌, ◌-◌, ◌≤◌, ◌<◌, cond, leb, min};
 ghost use Rattle.port_tables.specs.Limits.{port_slots};
-ghost use Rattle.port_tables.specs.Lists.{filter};
+ghost use Rattle.std.specs.List.{filter};
 ghost use Rattle.multi_tables.specs.Forms.{seen_as, subport#, wire_to};
 ghost use Rattle.multi_tables.specs.TableReads.{seen_in, wire_in};
 ghost use Rattle.multi_tables.specs.Scans.{first_found, link_port, span_first, span_count, not_own_output, passes_in, links_in, port_links_in, links_rest, beyond_in, block_links_in};
@@ -110,6 +110,7 @@ impl WireTables<'_> {
 
     // The link of the end at a slot, if it has one that is given. That its port is the one named stays a clause, here and below: definitions make links of any
     // numbers, and a type that held it would be none of theirs; no plainer.
+    #[tactic(auto, using(crate::specs::ScanSteps::end_outside, crate::specs::ScanSteps::end_nothing, crate::specs::ScanSteps::end_given))]
     pub fn link_at(
         self,
         only: LinkFilter,
@@ -138,6 +139,7 @@ impl WireTables<'_> {
 
     // The first link at these ends. Stays a loop, as the search behind it and the one from the back: what `find_map` gives is told of the runs of its closure, and
     // the invariant here of links. The test is a pattern, here and in the searches like it: `is_some` was tried, and the proof of what is returned did not close.
+    #[tactic(auto, using(crate::specs::ScanSteps::scan_turn, crate::specs::ScanSteps::scan_found, crate::specs::ScanSteps::scan_done))]
     pub fn scan_port(self, only: LinkFilter, ends: PortEnds) -> Option<SubportLink>
         ensures { (result ≡ first_found (filter (λ w. passes_in self.entry.owners.now self.entry.flags.now only w.to.port.0)
             (links_in self.entry.links.now self.entry.owners.now self.entry.flags.now ends.port ends.first ends.from (ends.end - ends.from))))
@@ -174,6 +176,7 @@ impl WireTables<'_> {
     }
 
     // The first link of the ports below `end`, from one port and offset on.
+    #[tactic(auto, using(crate::specs::ScanSteps::row_turn, crate::specs::ScanSteps::row_found, crate::specs::ScanSteps::row_done, crate::specs::ScanSteps::port_below))]
     fn next_link(
         self,
         only: LinkFilter,
@@ -199,6 +202,7 @@ impl WireTables<'_> {
 
     // The first link of the ports from `from` on and below `end` that lies beyond what a cursor holds.
     // A first port and an end, no range, here and in the crates above: the definitions take both, and what is held replaces the first; no plainer.
+    #[tactic(auto, using(crate::specs::ScanSteps::beyond_start))]
     pub fn next_beyond(
         self,
         only: LinkFilter,
@@ -216,6 +220,7 @@ impl WireTables<'_> {
 
     // The first link of the outgoing side of what a node slot holds, beyond what a cursor holds.
     // The flag stays beside the slot: each is read off its own table, and the definition takes both; no plainer.
+    #[tactic(auto, using(crate::specs::ScanSteps::block_hidden, crate::specs::ScanSteps::block_free))]
     pub fn block_links(self, slot: NodeSlot, hidden: bool, held: Held) -> Option<SubportLink>
         ensures { (result ≡ first_found (block_links_in self.entry.marks.now self.entry.links.now self.entry.owners.now self.entry.flags.now slot.entry hidden held.port held.offset))
             × (link_port 0 result < port_slots) }

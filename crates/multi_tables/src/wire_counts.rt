@@ -24,6 +24,7 @@ impl WireTables<'_> {
     // How many of the slots in a row from `from` on that have this owner are linked. Stays a loop, as the one below: a filter over the range was tried,
     // and that its count is the definition's could not be proved.
     // That a count is at most the table's size stays a clause, here and in `scans`: a type that held it would be taken apart at each sum; no plainer.
+    #[tactic(auto, using(crate::specs::TableReadSteps::run_turn, crate::specs::TableReadSteps::run_stop, crate::specs::TableReadSteps::run_end, crate::specs::TableReadSteps::up_start, crate::specs::TableReadSteps::up_yes, crate::specs::TableReadSteps::up_no, crate::specs::FanOutScanSteps::up_none, crate::specs::FanOutScanSteps::up_next))]
     fn linked_up(self, owner: u32, from: usize) -> usize
         requires { from ≤ 4294967296 }
         ensures { (result ≡ linked_up self.entry.links.now from (run_up self.entry.owners.now owner from)) × (result ≤ port_slots) }
@@ -40,6 +41,7 @@ impl WireTables<'_> {
 
     // How many of the slots in a row below `from` that have this owner are linked.
     // Stays beside `linked_up`, as `run_down` beside `run_up`.
+    #[tactic(auto, using(crate::specs::TableReadSteps::run_turn, crate::specs::TableReadSteps::run_stop, crate::specs::TableReadSteps::run_end, crate::specs::TableReadSteps::down_start, crate::specs::TableReadSteps::down_yes, crate::specs::TableReadSteps::down_no, crate::specs::FanOutScanSteps::down_none, crate::specs::FanOutScanSteps::down_next))]
     fn linked_down(self, owner: u32, from: usize) -> usize
         ensures { (result ≡ linked_down self.entry.links.now from (run_down self.entry.owners.now owner from)) × (result ≤ port_slots) }
     {

@@ -8,7 +8,7 @@ use native.Mathlib.Omega.{arith}
 use Rattle.std.proofs.lemmas.List.Edits.{sets, sets-eq}
 use Rattle.std.proofs.Math.Seq.{length-sets, take-append_seam}
 use Rattle.std.proofs.lemmas.Bool.{lt-leb}
-use Rattle.port_tables.specs.Limits.{port_slots, node_ports, present}
+use Rattle.port_tables.specs.Limits.{node_ports, present}
 use Rattle.portgraph.specs.Model.{Wf}
 use Rattle.portgraph.specs.Lookups.{entry_at, meta_at}
 use Rattle.port_tables.specs.Entries.{meta_of_entry}
@@ -28,10 +28,8 @@ use Rattle.portgraph.specs.declared.portgraph.PortGraph.{PortGraph}
 use Rattle.multiportgraph.specs.Reading.{is_hidden, is_split, copy_node}
 use Rattle.multiportgraph.specs.Calls.{drop_block, remove_block, set_as, set_counts, told_meta, moves_told, moves_told_under, set_counts_under}
 use Rattle.multiportgraph.specs.WellFormed.{MultiWf}
+use Rattle.multiportgraph.specs.Presumed.{Resizes}
 use Rattle.multiportgraph.specs.CodeForms.{block_in, block_found}
-use Rattle.multi_tables.specs.Forms.{flag_at}
-use Rattle.multi_tables.specs.FormSteps.{flag_inside}
-use Rattle.multiportgraph.specs.CopySteps.{unsplit_plain}
 use Rattle.multi_tables.specs.declared.answers.Refusal.{Refusal}
 use Rattle.multi_tables.specs.declared.answers.Refusal.TheVariants.{TooManyPorts, UnknownNode, HiddenNode}
 use Rattle.multiportgraph.specs.declared.multiportgraph.NodeRemoved.{NodeRemoved}
@@ -84,11 +82,6 @@ unsplit_turn m m' p w k n h f e =
     let a : p + (k + 1) ≡ suc (p + k) = omega arith in
     rw (e, f, one, a)
 
--- a port of the range that is not marked has none
-pub unsplit_none : (m m' : MultiPortGraph) (p : ℕ) (b : Bool) → p < port_slots → b ≡ flag_at m.multiport port_slots p → b ≡ false → m' ≡ m → m' ≡ unsplit m p
-unfolding is_split
-unsplit_none m m' p b l f g e = e ∙ unsplit_plain m p (flag_inside m.multiport port_slots p l ∙ (sym f ∙ g))
-
 -- Listed hidden nodes go.
 
 pub remove_turn : (m m' : MultiPortGraph) (l : List ℕ) (k : ℕ) → k < length l → m' ≡ remove_lone m (get_or l k 0) → remove_all m' (drop (k + 1) l) ≡ remove_all m (drop k l)
@@ -106,62 +99,55 @@ copies_few m p (suc n) = go (is_split m p) (copies_few m (suc p) n)
     go true h = omega arith
     go false h = omega arith
 
-module _ (m : MultiPortGraph) (p k n : ℕ) (h : k < n) where
-  abbrev rest : List ℕ
-  rest = copies_in m (suc (p + k)) (n - (k + 1))
+-- What a listing of the hidden nodes of n ports from p on keeps, k of them gone through: where those of the rest are written from the present place on, all are.
+pub record CopiesLeft (m : MultiPortGraph) (p n k : ℕ) (list₀ list : List ℕ) (place : ℕ) : Type 0 where
+  pub few : place ≤ k
+  pub counted : place + length (copies_in m (p + k) (n - k)) ≡ length (copies_in m p n)
+  pub same : sets list place (copies_in m (p + k) (n - k)) ≡ sets list₀ 0 (copies_in m p n)
 
-  copies_step : copies_in m (p + k) (n - k) ≡ cond (is_split m (p + k)) (copy_node m (p + k) ∷ rest) rest
+pub copies_start : {m : MultiPortGraph} {p n : ℕ} {l : List ℕ} → CopiesLeft m p n 0 l l 0
+copies_start {m} {p} {n} =
+    let a : p + 0 ≡ p = omega arith in
+    let b : n - 0 ≡ n = omega arith in
+    record { few = omega arith; counted = rw (a, b) (omega arith); same = rw (a, b) }
+
+module _ {m : MultiPortGraph} {p n k : ℕ} {l₀ l : List ℕ} {a : ℕ} (left : CopiesLeft m p n k l₀ l a) where
+  module _ (h : k < n) where
+    abbrev rest : List ℕ
+    rest = copies_in m (p + (k + 1)) (n - (k + 1))
+
+    copies_step : (b : Bool) → is_split m (p + k) ≡ b → copies_in m (p + k) (n - k) ≡ cond b (copy_node m (p + k) ∷ rest) rest
+    unfolding copies_in
+    copies_step b s =
+        let one : n - k ≡ suc (n - (k + 1)) = omega arith in
+        let next : p + (k + 1) ≡ suc (p + k) = omega arith in
+        rw (one, next, s)
+
+    pub copies_turn_split : {l' : List ℕ} {a' c : ℕ} → is_split m (p + k) ≡ true → c ≡ copy_node m (p + k) → l' ≡ set l a c → a' ≡ a + 1 → CopiesLeft m p n (k + 1) l₀ l' a'
+    copies_turn_split s e f g =
+        let step = copies_step true s in
+        let small = left.few in
+        let size = ap length step in
+        let count = left.counted in
+        let next : a + 1 ≡ suc a = omega arith in
+        record { few = omega arith; counted = omega arith; same = rw (f, g, e, next) (ap (sets l a) (sym step) ∙ left.same) }
+
+    pub copies_turn_plain : {l' : List ℕ} {a' : ℕ} → is_split m (p + k) ≡ false → l' ≡ l → a' ≡ a → CopiesLeft m p n (k + 1) l₀ l' a'
+    copies_turn_plain s f g =
+        let step = copies_step false s in
+        let small = left.few in
+        let size = ap length step in
+        let count = left.counted in
+        record { few = omega arith; counted = omega arith; same = rw (f, g) (ap (sets l a) (sym step) ∙ left.same) }
+
+  pub copies_listed : n ≤ k → (a ≡ length (copies_in m p n)) × (l ≡ sets l₀ 0 (copies_in m p n))
   unfolding copies_in
-  copies_step = let one : n - k ≡ suc (n - (k + 1)) = omega arith in rw one
-
-  copies_split : is_split m (p + k) ≡ true → copies_in m (p + k) (n - k) ≡ copy_node m (p + k) ∷ rest
-  copies_split s = copies_step ∙ rw s
-
-  copies_plain : is_split m (p + k) ≡ false → copies_in m (p + k) (n - k) ≡ rest
-  copies_plain s = copies_step ∙ rw s
-
-  pub split_count : (a : ℕ) → is_split m (p + k) ≡ true
-      → (a + 1) + length (copies_in m (p + (k + 1)) (n - (k + 1))) ≡ a + length (copies_in m (p + k) (n - k))
-  split_count a s = let e : p + (k + 1) ≡ suc (p + k) = omega arith in rw (e, copies_split s) (omega arith)
-
-  pub plain_count : (a : ℕ) → is_split m (p + k) ≡ false
-      → a + length (copies_in m (p + (k + 1)) (n - (k + 1))) ≡ a + length (copies_in m (p + k) (n - k))
-  plain_count a s = let e : p + (k + 1) ≡ suc (p + k) = omega arith in rw (e, copies_plain s)
-
-  pub split_list : (l : List ℕ) (a c : ℕ) → is_split m (p + k) ≡ true → c ≡ copy_node m (p + k)
-      → sets (set l a c) (a + 1) (copies_in m (p + (k + 1)) (n - (k + 1))) ≡ sets l a (copies_in m (p + k) (n - k))
-  split_list l a c s f =
-      let e : p + (k + 1) ≡ suc (p + k) = omega arith in
-      let g : a + 1 ≡ suc a = omega arith in
-      rw (e, copies_split s, f, g)
-
-  pub plain_list : (l : List ℕ) (a : ℕ) → is_split m (p + k) ≡ false
-      → sets l a (copies_in m (p + (k + 1)) (n - (k + 1))) ≡ sets l a (copies_in m (p + k) (n - k))
-  plain_list l a s = let e : p + (k + 1) ≡ suc (p + k) = omega arith in rw (e, copies_plain s)
-
-  abbrev Left : ℕ → List ℕ → ℕ → ℕ → List ℕ → ℕ → Type 0
-  Left i l a j l' a' =
-      (a' ≤ j) × (a' + length (copies_in m (p + i) (n - i)) ≡ a + length (copies_in m (p + k) (n - k)))
-      × (sets l' a' (copies_in m (p + i) (n - i)) ≡ sets l a (copies_in m (p + k) (n - k)))
-
-  pub copies_turn_split : (l l' : List ℕ) (a a' c j : ℕ) → is_split m (p + k) ≡ true → c ≡ copy_node m (p + k) → l' ≡ set l a c → a' ≡ a + 1 → a ≤ j + k
-      → Left (k + 1) l a (j + (k + 1)) l' a'
-  copies_turn_split l l' a a' c j s e f g i = (omega arith, rw g (split_count a s), rw (g, f) (split_list l a c s e))
-
-  pub copies_turn_plain : (l l' : List ℕ) (a a' j : ℕ) → is_split m (p + k) ≡ false → l' ≡ l → a' ≡ a → a ≤ j + k
-      → Left (k + 1) l a (j + (k + 1)) l' a'
-  copies_turn_plain l l' a a' j s f g i = (omega arith, rw g (plain_count a s), rw (g, f) (plain_list l a s))
-
-module _ (m : MultiPortGraph) (p k n : ℕ) (h : n ≤ k) where
-  copies_none : copies_in m p (n - k) ≡ []
-  unfolding copies_in
-  copies_none = let e : n - k ≡ 0 = omega arith in rw e
-
-  pub copies_counted : (a : ℕ) → a ≡ a + length (copies_in m p (n - k))
-  copies_counted a = rw copies_none (omega arith)
-
-  pub copies_listed : (l : List ℕ) (a : ℕ) → l ≡ sets l a (copies_in m p (n - k))
-  copies_listed l a = rw copies_none
+  copies_listed h =
+      let z : n - k ≡ 0 = omega arith in
+      let none : copies_in m (p + k) (n - k) ≡ [] = rw z in
+      let size = ap length none in
+      let count = left.counted in
+      (omega arith, sym (ap (sets l a) none) ∙ left.same)
 
 -- both sides of a block
 pub dropped_listed : (m : MultiPortGraph) (k : NodeMeta) (i o first a b x y c r : ℕ) (l l₁ l₂ : List ℕ)
@@ -244,33 +230,21 @@ module _ (m : MultiPortGraph) (n : ℕ) where
 
 -- Changing a block's counts.
 
-pub list_taken : (l l' vs : List ℕ) (c : ℕ) → length vs ≤ length l → l' ≡ sets l 0 vs → c ≡ length vs → take c l' ≡ vs
-list_taken l l' vs c h e f =
+-- what was listed at a list's front stands there
+pub list_taken : (l : List ℕ) {l' vs : List ℕ} {c : ℕ} → length vs ≤ length l → l' ≡ sets l 0 vs → c ≡ length vs → (c ≤ length l') × (take c l' ≡ vs)
+list_taken l {vs = vs} h e f =
     let z : 0 + length vs ≤ length l = omega arith in
-    rw (e, f, sets-eq vs l 0 z) (take-append_seam vs (drop (0 + length vs) l))
-
-pub loose_removed : (m loose after : MultiPortGraph) (g : PortGraph) (k : NodeMeta) (n i o c : ℕ) (l l' : List ℕ) → BlockFits k → loose ≡ recounted m n g
-    → after ≡ remove_all loose (take c l') → c ≡ length (copies_dropped m k i o) → l' ≡ sets l 0 (copies_dropped m k i o) → length l ≡ node_ports
-    → after ≡ remove_all (recounted m n g) (copies_dropped m k i o)
-loose_removed m loose after g k n i o c l l' fits e f h j long =
-    let few = copies_dropped_few m k i o fits in
-    let t = list_taken l l' (copies_dropped m k i o) c (omega arith) j h in
-    f ∙ ap (remove_all loose) t ∙ ap (λ x. remove_all x (copies_dropped m k i o)) e
-
--- what removing the listed nodes asks
-pub listed_fits : (m loose : MultiPortGraph) (g : PortGraph) (k : NodeMeta) (n i o c : ℕ) (l l' : List ℕ) → Wf g → BlockFits k → loose ≡ recounted m n g
-    → c ≡ length (copies_dropped m k i o) → l' ≡ sets l 0 (copies_dropped m k i o) → length l ≡ node_ports
-    → Wf loose.graph × (c ≤ node_ports) × (length l' ≡ node_ports)
-unfolding recounted
-listed_fits m loose g k n i o c l l' w fits e h j long =
-    let few = copies_dropped_few m k i o fits in
-    (rw e w, omega arith, ap length j ∙ length-sets l 0 (copies_dropped m k i o) ∙ long)
+    let long = ap length e ∙ length-sets l 0 vs in
+    (omega arith, rw (e, f, sets-eq vs l 0 z) (take-append_seam vs (drop (0 + length vs) l)))
 
 pub wf_set_is : (m : MultiPortGraph) (s : lower_set.PortsSet) (n i o room : ℕ) → MultiWf m → s ≡ set_num_ports m.graph n i o room → Wf s.graph
 wf_set_is m s n i o room w e = rw e (wf_set m.graph n i o room (lower_wf m w))
 
 pub block_in_lem : (m : MultiPortGraph) (n : ℕ) (k : NodeMeta) → MultiWf m → Some k ≡ meta_at m.graph n → BlockFits k
 block_in_lem m n k w e = found_block_fits m.graph (lower_wf m w) n k e
+
+pub resizes_found : {m : MultiPortGraph} {n i o : ℕ} {k : NodeMeta} → MultiWf m → i + o ≤ node_ports → Ok k ≡ block_found m n → Resizes m n k i o
+resizes_found {m} {n} {k = k} w few e = let found = found_is m n k e in record { wf = w; few = few; meta = found.0; seen = found.1 }
 
 -- what the call gives, whatever room the move list has
 module _ (m : MultiPortGraph) (n i o room : ℕ) where

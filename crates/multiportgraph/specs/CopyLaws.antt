@@ -2,7 +2,7 @@
 -- Then the cut of a whole port.
 use Rattle.std.proofs.lemmas.Bool.{cases_Bool}
 use Rattle.std.proofs.lemmas.Bool.{cases_eq}
-use Rattle.std.specs.Prelude.{◌≡◌, refl, Bool, true, List, [], ℕ, ◌+◌, ◌-◌, ◌≤◌, ◌<◌, set}
+use Rattle.std.specs.Prelude.{◌≡◌, refl, Bool, true, List, [], ℕ, ◌+◌, ◌-◌, ◌<◌, set}
 use Rattle.std.proofs.Math.Path.{sym, ap}
 use Rattle.std.proofs.Common.{◌∙◌, subst, inl, inr, eq-eqb, ne_eqb}
 use Rattle.std.proofs.Math.Bool.{false, cond}
@@ -19,7 +19,7 @@ use Rattle.portgraph.specs.Meaning.{remove_model, unlink_model, at_node}
 use Rattle.portgraph.specs.Lookups.{num_ports}
 use Rattle.portgraph.specs.Calls.{remove_node, unlink_port}
 use Rattle.portgraph.specs.Sums.{total_one, drop_kept, drop_joined, drop_there, upd_other, upd_same}
-use Rattle.portgraph.specs.GoodSlots.{gone_not_live, slots_apart, slot_in_range, same_place_lem}
+use Rattle.portgraph.specs.GoodSlots.{gone_not_live, slots_apart, slot_in_range, same_place_lem, node_below}
 use Rattle.portgraph.specs.GoodLaws.{good_remove}
 use Rattle.portgraph.specs.SlotHolds.{remove_law, remove_slots, free_holds}
 use Rattle.port_tables.specs.declared.direction.Direction.{Direction}
@@ -30,11 +30,12 @@ use Rattle.multiportgraph.specs.Reading.{is_hidden, is_split, copy_side, copy_no
 use Rattle.multiportgraph.specs.WellFormed.{copy_place, Fine, Seen, outer, lift, IsEnd, WireIn, SameBlocks, Wiring, subports_of_slot}
 use Rattle.multiportgraph.specs.Ends.{Hangs, port_of_lem, count_of_lem, copy_valid, main_seen, main_back, outer_of_subport, outer_of_block, one_copy, unsplit_no_copy, split_has_copy, ends_join_ends, outer_of_unsplit}
 use Rattle.multiportgraph.specs.HiddenStays.{same_wire, outer_kept, true_not_false, AtCopyLink, Frame, frame_fine, Alike, kept_end, wire_kept, kept_wire}
-use Rattle.multiportgraph.specs.LinkCutLaws.{to_same, end_is_here, CutDone, cut_end_lem, end_is, touches_neither, touched_not_out, touched_not_into, at_spot_here, at_spot_is}
+use Rattle.multiportgraph.specs.LinkCutLaws.{end_is_here, CutDone, cut_end_lem, end_is, touches_neither, touched_not_out, touched_not_into, at_spot_here, at_spot_is}
 use Rattle.multiportgraph.specs.declared.multiportgraph.MultiPortGraph.{MultiPortGraph}
 use Rattle.port_tables.specs.Places.{Place, Wire, touches, at_spot, at_end, spot, flag}
 use Rattle.multiportgraph.specs.Graph.{with_graph}
 use Rattle.multiportgraph.specs.HiddenNodes.{remove_copy, unsplit}
+use Rattle.portgraph.specs.Joins.{to_same}
 
 -- the ports at a place, whatever the offset
 abbrev pub port_at : model.InnerPlace → Place → Bool
@@ -113,15 +114,12 @@ module _ {m : MultiPortGraph} {M : Model} (f : Fine m M) (x : model.InnerPlace) 
   unfolding is_hidden remove_copy
   hidden_other n other = get_or-set_other m.copy_node c n false false other
 
-  node_below : c < node_slots
-  node_below =
-      let a : c < M.node_len = f.good.node_used c k (f.copy c hc).here in
-      let b : M.node_len ≤ node_slots = f.good.nodes_fit in
-      omega arith
+  copy_below : c < node_slots
+  copy_below = node_below f.good c k (f.copy c hc).here
 
   hidden_gone : is_hidden without_copy c ≡ false
   unfolding is_hidden remove_copy
-  hidden_gone = get_or-set_same m.copy_node c false false (let l : length m.copy_node ≡ node_slots = f.flags_long in let b = node_below in omega arith)
+  hidden_gone = get_or-set_same m.copy_node c false false (let l : length m.copy_node ≡ node_slots = f.flags_long in let b = copy_below in omega arith)
 
   hidden_not_copy : (n : ℕ) → is_hidden without_copy n ≡ true → n ≡ c → ⊥
   hidden_not_copy n t e = true_not_false t (ap (is_hidden without_copy) e ∙ hidden_gone)
@@ -170,7 +168,7 @@ module _ {m : MultiPortGraph} {M : Model} (f : Fine m M) (x : model.InnerPlace) 
   copies_after : without_copy.copy_node_count ≡ total node_slots (λ n. flag (is_hidden without_copy n))
   unfolding remove_copy
   copies_after =
-      let t = total_one node_slots c (λ n. flag (is_hidden m n)) (λ n. flag (is_hidden without_copy n)) node_below (λ n l other. ap flag (sym (hidden_other n other))) in
+      let t = total_one node_slots c (λ n. flag (is_hidden m n)) (λ n. flag (is_hidden without_copy n)) copy_below (λ n l other. ap flag (sym (hidden_other n other))) in
       let a : flag (is_hidden m c) ≡ 1 = ap flag hc in
       let b : flag (is_hidden without_copy c) ≡ 0 = ap flag hidden_gone in
       let e = f.copies in
@@ -183,7 +181,7 @@ module _ {m : MultiPortGraph} {M : Model} (f : Fine m M) (x : model.InnerPlace) 
   subs_after : without_copy.subport_count ≡ total node_slots (subports_of_slot without_copy model_after)
   unfolding remove_copy
   subs_after =
-      let t = total_one node_slots c (subports_of_slot m M) (subports_of_slot without_copy model_after) node_below
+      let t = total_one node_slots c (subports_of_slot m M) (subports_of_slot without_copy model_after) copy_below
       (λ n l other. sym (ap (λ (b : Bool). cond b (ports_of (model_after.node n) - 1) 0) (hidden_other n other) ∙ ap (λ (s : Slots). cond (is_hidden m n) (ports_of s - 1) 0) (node_other n other))) in
       let a : subports_of_slot m M c ≡ k.incoming + k.outgoing - 1 = ap (λ (b : Bool). cond b (ports_of (M.node c) - 1) 0) hc ∙ ap (λ (s : Slots). ports_of s - 1) (f.copy c hc).here in
       let b : subports_of_slot without_copy model_after c ≡ 0 = ap (λ (b : Bool). cond b (ports_of (model_after.node c) - 1) 0) hidden_gone in
@@ -324,10 +322,6 @@ copy_goes {m} {M} f x h =
 pub unsplit_split : (m : MultiPortGraph) (p : ℕ) → is_split m p ≡ true → unsplit m p ≡ remove_copy m p (copy_node m p)
 unfolding unsplit
 unsplit_split m p e = rw e
-
-pub unsplit_whole : (m : MultiPortGraph) (p : ℕ) → is_split m p ≡ false → unsplit m p ≡ m
-unfolding unsplit
-unsplit_whole m p e = rw e
 
 pub unsplit_gone : {m : MultiPortGraph} {M : Model} (f : Fine m M) (x : model.InnerPlace) → Seen m M x → is_split m (slot_of M.node x) ≡ true
     → (M' : Model) × CopyGone m M x (unsplit m (slot_of M.node x)) M'

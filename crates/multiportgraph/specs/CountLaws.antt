@@ -10,13 +10,14 @@ use Prim.Native.Nat.{ℕ, zero, suc, ◌+◌, ◌-◌, ◌≤◌, ◌<◌}
 use native.Mathlib.Omega.{arith}
 use Rattle.std.proofs.Math.ListN.{length, length-append}
 use Rattle.port_tables.specs.Limits.{node_slots}
-use Rattle.port_tables.specs.Lists.{range, filter, Once, Member, Rising}
+use Rattle.port_tables.specs.Lists.{range, Once, Member, Rising}
+use Rattle.std.specs.List.{filter}
 use Rattle.port_tables.specs.Entries.{reversed, ports_on}
 use Rattle.portgraph.specs.Lookups.{num_ports, contains_node, is_some}
 use Rattle.portgraph.specs.Model as model
 use Rattle.portgraph.specs.Model.{Model, Far, nowhere, to, Slots, gone, live, Good, slot_of, count_of, total, is_live, ports_of, is_linked, out_place, links_out}
 use Rattle.portgraph.specs.Sums.{total_same}
-use Rattle.portgraph.specs.GoodSlots.{zero_is_not_one, same_place_lem}
+use Rattle.portgraph.specs.GoodSlots.{zero_is_not_one, same_place_lem, node_below}
 use Rattle.portgraph.specs.PlaceLaws.{meta_of_node, gone_has_no_meta}
 use Rattle.port_tables.specs.declared.direction.Direction.{Direction}
 use Rattle.port_tables.specs.declared.direction.Direction.TheVariants.{Incoming, Outgoing}
@@ -27,7 +28,7 @@ use Rattle.multiportgraph.specs.Wires.{is_block, blocks, ports_of_side, all_wire
 use Rattle.multiportgraph.specs.Walks.{ports_by_block}
 use Rattle.multiportgraph.specs.WellFormed.{copy_place, Fine, Seen, outer, IsEnd, WireIn, subports_of_slot}
 use Rattle.multiportgraph.specs.Ends.{split_has_copy, one_copy, unsplit_no_copy, copy_or_end, outer_seen, outer_apart, ends_join_ends, main_seen, main_side, main_back, count_of_lem, wires_by_out}
-use Rattle.port_tables.specs.Listing.{Apart, member_left, member_right, member_append, member_filter, filter_member, member_flat_map, flat_map_member, member_map, map_member, length_map, range_member, in_wires, wire_member, filter_all, rising_append, rising_filter, rising_flat_map, rising_map, range_rises, length_range, partners}
+use Rattle.port_tables.specs.Listing.{Apart, member_left, member_right, member_append, member_filter, filter_member, member_flat_map, flat_map_member, member_map, map_member, length_map, range_member, filter_all, rising_append, rising_filter, rising_flat_map, rising_map, range_rises, length_range, partners}
 use Rattle.multiportgraph.specs.WalkRule.{listed_is_wire, wire_is_listed, listed_once}
 use Rattle.multiportgraph.specs.declared.multiportgraph.MultiPortGraph.{MultiPortGraph}
 use Rattle.port_tables.specs.Places.{Place, Wire, flag}
@@ -49,7 +50,7 @@ total_add (suc n) f g = let r = total_add n f g in omega arith
 -- the length of lists gathered over those numbers for which a test holds
 gathered_from : {A : Type 0} (g : ℕ → List A) (t : ℕ → Bool) (i n : ℕ) →
     length (flat_map g (filter t (range i n))) ≡ total n (λ j. cond (t (i + j)) (length (g (i + j))) 0)
-unfolding flat_map filter range total
+unfolding flat_map range total
 gathered_from g t i zero = refl
 gathered_from {A} g t i (suc n) = go (t i) refl (gathered_from g t (suc i) n) ∙ sym (total_first n (λ j. at (i + j)) ∙ shifted)
   where
@@ -83,7 +84,7 @@ counted t n = ap length (sym (flat_map_single (filter t (range 0 n)))) ∙ (gath
 
 once_apart : (l : List Wire) → Once l → Rising Apart l
 once_apart [] o = tt
-once_apart (w ∷ l) o = ((λ v i e. o.0 (in_wires w l (subst (λ u. Member u l) (sym e) i))), once_apart l o.1)
+once_apart (w ∷ l) o = ((λ v i e. o.0 (subst (λ u. Member u l) (sym e) i)), once_apart l o.1)
 
 -- Linked outgoing places.
 
@@ -158,7 +159,7 @@ module _ (M : Model) where
     where
       used : (v : Slots) → M.node x.node ≡ v → x.pos < count_of v Outgoing → x.node < 0 + node_slots
       used gone e l = absurd (omega arith)
-      used (live k) e l = let a = good.node_used x.node k e in let b = good.nodes_fit in omega arith
+      used (live k) e l = omega (arith, node_below good x.node k e)
 
 side_within : (k : NodeMeta) (d : Direction) → ports_on k d ≤ k.incoming + k.outgoing
 side_within k Incoming = omega arith
@@ -322,14 +323,13 @@ module _ {m : MultiPortGraph} {M : Model} (f : Fine m M) where
   unfolding wires_and_copies
   wire_counted w a =
       member_left (inl w) (map inl (map (wire_places m) (all_wires m))) (map inr (filter (is_hidden m) (range 0 node_slots)))
-      (map_member inl w (map (wire_places m) (all_wires m)) (wire_member w (map (wire_places m) (all_wires m)) (wire_is_listed f w a)))
+      (map_member inl w (map (wire_places m) (all_wires m)) (wire_is_listed f w a))
 
   copy_counted : (c : ℕ) → is_hidden m c ≡ true → Member {A = Wire ⊎ ℕ} (inr c) (wires_and_copies m)
   unfolding wires_and_copies
   copy_counted c h =
       let k = f.copy c h in
-      let a = f.good.node_used c k.meta k.here in
-      let b = f.good.nodes_fit in
+      let a = node_below f.good c k.meta k.here in
       member_right (inr c) (map inl (map (wire_places m) (all_wires m))) (map inr (filter (is_hidden m) (range 0 node_slots)))
       (map_member inr c (filter (is_hidden m) (range 0 node_slots)) (filter_member (is_hidden m) c (range 0 node_slots) (range_member c 0 node_slots (omega arith) (omega arith)) h))
 
@@ -356,7 +356,7 @@ module _ {m : MultiPortGraph} {M : Model} (f : Fine m M) where
   counted_linked : (y : Wire ⊎ ℕ) → Member y (wires_and_copies m) → (x : model.InnerPlace) × Member x (linked_places M) × CountsFor m M x y
   unfolding wires_and_copies
   counted_linked y i =
-      ⊎_elim (λ h. let r = member_map inl y (map (wire_places m) (all_wires m)) h in wire y r.0 r.2 (listed_is_wire f r.0 (in_wires r.0 (map (wire_places m) (all_wires m)) r.1)))
+      ⊎_elim (λ h. let r = member_map inl y (map (wire_places m) (all_wires m)) h in wire y r.0 r.2 (listed_is_wire f r.0 r.1))
       (λ h. let r = member_map inr y (filter (is_hidden m) (range 0 node_slots)) h in copied y r.0 r.2 (member_filter (is_hidden m) r.0 (range 0 node_slots) r.1).1)
       (member_append y (map inl (map (wire_places m) (all_wires m))) (map inr (filter (is_hidden m) (range 0 node_slots))) i)
     where

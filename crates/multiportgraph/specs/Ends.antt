@@ -5,12 +5,13 @@ use Rattle.std.specs.Prelude.{◌≡◌, Bool, ◌⊎◌, ℕ, zero, suc, ◌+�
 use Rattle.std.proofs.Math.Path.{refl, ap, subst}
 use Rattle.std.proofs.Common.{sym, ◌∙◌, inl, inr}
 use Rattle.std.proofs.Math.Bool.{true, false, cond}
-use mathlib.Core.List.{List, [], ◌∷◌, ◌++◌, flat_map, map}
+use mathlib.Core.List.{List, [], ◌∷◌, ◌++◌, flat_map, map, map-append}
 use Rattle.std.proofs.Math.Logic.{⊎_elim}
 use native.Mathlib.Omega.{arith}
 use Rattle.std.proofs.Math.Dec.{ltb}
 use borrow.Author.Tests.{ltb-true, ltb-false, lt-ltb, le-ltb, ne_eqb}
-use Rattle.port_tables.specs.Lists.{range, filter}
+use Rattle.port_tables.specs.Lists.{range}
+use Rattle.std.specs.List.{filter}
 use Rattle.port_tables.specs.Entries.{reversed, ports_on, node_of}
 use Rattle.portgraph.specs.Lookups.{num_ports, count_in}
 use Rattle.portgraph.specs.Model as model
@@ -29,6 +30,7 @@ use Rattle.multiportgraph.specs.WellFormed.{inner#, copy_place, Marked, copy_por
 use Rattle.multiportgraph.specs.declared.multiportgraph.MultiPortGraph.{MultiPortGraph}
 use Rattle.multi_tables.specs.declared.answers.SubportIndex.{SubportIndex}
 use Rattle.port_tables.specs.Places.{Place, Wire, wire_of_sides}
+use Rattle.std.proofs.lemmas.List.Elements.{filter-append}
 
 -- a port of a block, by its number
 pub record BlockPort (m : MultiPortGraph) (M : Model) (p n : ℕ) (d : Direction) : Type 0 where
@@ -97,19 +99,6 @@ lift_place {x} {y} e = same_place_lem x y (ap (λ (z : Place). z.node) e) (ap (�
 
 -- Lists of ports.
 
-pub filter_append : {A : Type 0} (t : A → Bool) (a b : List A) → filter t (a ++ b) ≡ filter t a ++ filter t b
-unfolding filter
-filter_append t [] b = refl
-filter_append t (x ∷ a) b = go (t x) (filter_append t a b)
-  where
-    go : (c : Bool) → filter t (a ++ b) ≡ filter t a ++ filter t b → cond c (x ∷ filter t (a ++ b)) (filter t (a ++ b)) ≡ cond c (x ∷ filter t a) (filter t a) ++ filter t b
-    go true e = ap (λ l. x ∷ l) e
-    go false e = e
-
-pub map_append : {A B : Type 0} (h : A → B) (a b : List A) → map h (a ++ b) ≡ map h a ++ map h b
-map_append h [] b = refl
-map_append h (x ∷ a) b = ap (λ l. h x ∷ l) (map_append h a b)
-
 pub map_range : (h : ℕ → ℕ) (s i c : ℕ) → ((j : ℕ) → j < i + c → h j ≡ s + j) → map h (range i c) ≡ range (s + i) c
 unfolding range
 map_range h s i zero e = refl
@@ -121,17 +110,17 @@ map_range h s i (suc c) e =
 
 -- offsets other than 0 are left out
 later_offsets : (p i c : ℕ) → filter is_first (map (subport# p) (range (suc i) c)) ≡ []
-unfolding filter range
+unfolding range
 later_offsets p i zero = refl
 later_offsets p i (suc c) = rw (ne_eqb (suc i) 0 (λ e. omega arith)) (later_offsets p (suc i) c)
 
 first_offset : (p n : ℕ) → 0 < n → filter is_first (map (subport# p) (range 0 n)) ≡ subport# p 0 ∷ []
-unfolding filter range
+unfolding range
 first_offset p zero h = absurd (omega arith)
 first_offset p (suc n) h = ap (λ l. subport# p 0 ∷ l) (later_offsets p 0 n)
 
 port_once : (m : MultiPortGraph) (d : Direction) (p : ℕ) → (is_split m p ≡ true → 0 < subports m p d) → filter is_first (subports_of_port m d p) ≡ subport# p 0 ∷ []
-unfolding subports_of_port filter
+unfolding subports_of_port
 port_once m d p h = go (is_split m p) refl
   where
     go : (b : Bool) → is_split m p ≡ b → filter is_first (cond b (map (subport# p) (range 0 (subports m p d))) (subport# p 0 ∷ [])) ≡ subport# p 0 ∷ []
@@ -140,11 +129,11 @@ port_once m d p h = go (is_split m p) refl
 
 ports_once : (m : MultiPortGraph) (d : Direction) (s c : ℕ) → ((p : ℕ) → s ≤ p → p < s + c → is_split m p ≡ true → 0 < subports m p d) →
     map (λ (t : SubportIndex). t.port.0) (filter is_first (flat_map (subports_of_port m d) (range s c))) ≡ range s c
-unfolding flat_map range filter
+unfolding flat_map range
 ports_once m d s zero h = refl
 ports_once m d s (suc c) h =
     ap (map (λ (t : SubportIndex). t.port.0))
-    (filter_append is_first (subports_of_port m d s) (flat_map (subports_of_port m d) (range (suc s) c))
+    (filter-append is_first (subports_of_port m d s) (flat_map (subports_of_port m d) (range (suc s) c))
     ∙ ap (λ l. l ++ filter is_first (flat_map (subports_of_port m d) (range (suc s) c))) (port_once m d s (h s (omega arith) (omega arith))))
     ∙ ap (λ l. s ∷ l) (ports_once m d (suc s) c (λ p a b. h p (omega arith) (omega arith)))
 
@@ -574,8 +563,8 @@ module _ {m : MultiPortGraph} {M : Model} (f : Fine m M) where
       let i = side_once n Incoming k b in
       let o = side_once n Outgoing k b in
       let q : k.first_port.0 + 0 ≡ k.first_port.0 = omega arith in
-      ap (map (λ (t : SubportIndex). t.port.0)) (filter_append is_first (subports_of_side m n Incoming) (subports_of_side m n Outgoing))
-      ∙ (map_append (λ (t : SubportIndex). t.port.0) (filter is_first (subports_of_side m n Incoming)) (filter is_first (subports_of_side m n Outgoing))
+      ap (map (λ (t : SubportIndex). t.port.0)) (filter-append is_first (subports_of_side m n Incoming) (subports_of_side m n Outgoing))
+      ∙ (map-append (λ (t : SubportIndex). t.port.0) (filter is_first (subports_of_side m n Incoming)) (filter is_first (subports_of_side m n Outgoing))
       ∙ ((λ j. i j ++ o j) ∙ ap (λ (s : ℕ). range s k.incoming ++ range (k.first_port.0 + k.incoming) k.outgoing) q))
 
 -- A port of a block where the blocks are the same: it is one still, with its number.

@@ -28,11 +28,12 @@ use Rattle.multiportgraph.specs.LookupSteps.{start_at, block_at, meta_is, fan_ou
 use Rattle.port_tables.specs.Listing.{member_range}
 use Rattle.multiportgraph.specs.ScanLaws.{block_not_hidden, row_fits, port_seen_there, ports_in_row}
 use Rattle.multi_tables.specs.Scans.{span_first, span_count, links_in}
-use Rattle.multiportgraph.specs.ScanReads.{mark_told, count_plain, links_whole, first_subport, first_itself}
+use Rattle.multiportgraph.specs.ScanReads.{count_plain, links_whole, first_subport, first_itself}
 use Rattle.multi_tables.specs.FanOutScans.{linked_at, linked_up, wires_at_in, fan_out_in}
 use Rattle.multiportgraph.specs.declared.multiportgraph.MultiPortGraph.{MultiPortGraph}
 use Rattle.multi_tables.specs.declared.answers.Refusal.{Refusal}
 use Rattle.multi_tables.specs.FanOutScanSteps.{beside_is_up, sum_same, up_first}
+use Rattle.multiportgraph.specs.TableReadLaws.{mark_told}
 
 module _ (links owners : List ℕ) (flags : List Bool) (p first : ℕ) where
   slot_long : (i : ℕ) → length (wire_to (subport# p i) (wire_in links owners flags (first + i))) ≡ linked_at links (first + i)
@@ -74,14 +75,14 @@ module _ (m : MultiPortGraph) (w : MultiWf m) (p n : ℕ) (d : Direction) (s : s
 
   told_split : is_split m p ≡ true → told ≡ linked_up m.graph.port_link first count
   unfolding wires_at_in span_count subports_in linked_up
-  told_split t = rw (mark_told m w p, t) (beside_is_up m.graph.port_link m.graph.port_meta (far_in m.graph.port_link p) d ∙ go _ refl)
+  told_split t = rw (mark_told w.fine p, t) (beside_is_up m.graph.port_link m.graph.port_meta (far_in m.graph.port_link p) d ∙ go _ refl)
     where
       beside : ℕ
       beside = first_beside m.graph.port_meta (far_in m.graph.port_link p) d
 
       go : (k : ℕ) → count_beside m.graph.port_meta (far_in m.graph.port_link p) d ≡ k → linked_up m.graph.port_link beside k ≡ linked_up m.graph.port_link first k
       go zero e = refl
-      go (suc k) e = let c : count ≡ suc k = rw (mark_told m w p, t) e in ap (λ (x : ℕ). linked_up m.graph.port_link x (suc k)) (sym (first_subport m w p n d s t (omega arith)))
+      go (suc k) e = let c : count ≡ suc k = rw (mark_told w.fine p, t) e in ap (λ (x : ℕ). linked_up m.graph.port_link x (suc k)) (sym (first_subport m w p n d s t (omega arith)))
 
   told_plain : is_split m p ≡ false → told ≡ linked_up m.graph.port_link first count
   unfolding wires_at_in linked_up
@@ -89,7 +90,7 @@ module _ (m : MultiPortGraph) (w : MultiWf m) (p n : ℕ) (d : Direction) (s : s
       let c = count_plain m w p n d s t in
       let f = first_itself m w p n d s t in
       let a : p + 0 ≡ p = omega arith in
-      rw (mark_told m w p, t, c, f, a) (omega arith)
+      rw (mark_told w.fine p, t, c, f, a) (omega arith)
 
   pub wires_told : told ≡ fan_out m p
   unfolding fan_out

@@ -24,6 +24,9 @@ use Rattle.multiportgraph.specs.declared.multiportgraph.MultiPortGraph.{MultiPor
 use Rattle.port_tables.specs.Places.{Place, Wire, flag}
 use Rattle.multiportgraph.specs.Graph.{with_graph}
 
+pub same_slot : (M N : Model) (x : model.InnerPlace) → N.node x.node ≡ M.node x.node → slot_of N.node x ≡ slot_of M.node x
+same_slot M N x e = ap (λ (s : Slots). model.first_of s + (model.side_start s x.side + x.pos)) e
+
 pub true_not_false : {b : Bool} → b ≡ true → b ≡ false → ⊥
 true_not_false p q = zero_is_not_one (cc)
 
@@ -33,6 +36,10 @@ pub copy_side_is : (m : MultiPortGraph) (c : ℕ) (k : NodeMeta) (d : Direction)
 unfolding copy_side
 copy_side_is m c k Incoming e one more = rw (e, eq-eqb k.incoming 1 one, ne_eqb k.outgoing 1 (λ q. omega arith))
 copy_side_is m c k Outgoing e one more = rw (e, ne_eqb k.incoming 1 (λ q. omega arith))
+
+-- the copy port is the one of its side
+pub same_copy : {c : ℕ} {d e : Direction} → d ≡ e → inner# c d 0 ≡ inner# c e 0
+same_copy {c} p = ap (λ (d : Direction). inner# c d 0) p
 
 -- a slot at an end of a hidden node's own link
 abbrev pub AtCopyLink : MultiPortGraph → Model → ℕ → ℕ → Type 0
@@ -61,22 +68,16 @@ module _ {m : MultiPortGraph} {M : Model} {m' : MultiPortGraph} {M' : Model} (f 
       let k = f.copy c (F.hid c h) in
       copy_side_is m' c k.meta (copy_side m c) (meta_of_node F.good F.holds c k.meta (F.node c h ∙ k.here)) k.single k.several
 
-  pub copy_place_kept : (c : ℕ) → is_hidden m' c ≡ true → copy_place m' c ≡ copy_place m c
-  copy_place_kept c h = ap (λ (d : Direction). inner# c d 0) (copy_side_kept c h)
-
   pub copy_join_kept : (c : ℕ) → is_hidden m' c ≡ true → M'.join (copy_place m' c) ≡ M.join (copy_place m c)
-  copy_join_kept c h = ap M'.join (copy_place_kept c h) ∙ F.join c h
+  copy_join_kept c h = ap M'.join (same_copy (copy_side_kept c h)) ∙ F.join c h
 
   pub shown_kept : (n : ℕ) → is_hidden m n ≡ false → is_hidden m' n ≡ false
   shown_kept n h = ⊎_elim (λ t. absurd (true_not_false (F.hid n t) h)) (λ e. e) (cases_Bool (is_hidden m' n))
 
   pub copy_slot_kept : (c : ℕ) → is_hidden m' c ≡ true → slot_of M'.node (copy_place m' c) ≡ slot_of M.node (copy_place m c)
   copy_slot_kept c h =
-      ap (slot_of M'.node) (copy_place_kept c h)
+      ap (slot_of M'.node) (same_copy (copy_side_kept c h))
       ∙ ap (λ (s : Slots). model.first_of s + (model.side_start s (copy_side m c) + 0)) (F.node c h)
-
-  slot_kept : (x : model.InnerPlace) → M'.node x.node ≡ M.node x.node → slot_of M'.node x ≡ slot_of M.node x
-  slot_kept x e = ap (λ (s : Slots). model.first_of s + (model.side_start s x.side + x.pos)) e
 
   pub frame_fine : Fine m' M'
   frame_fine =
@@ -99,7 +100,7 @@ module _ {m : MultiPortGraph} {M : Model} {m' : MultiPortGraph} {M' : Model} (f 
         copy_marked = λ c h. F.marked c _ h (inl (sym (copy_slot_kept c h)));
         main_marked = λ c x h j.
             let i : M.join (copy_place m c) ≡ to x = sym (copy_join_kept c h) ∙ j in
-            F.marked c _ h (inr (x, i, sym (slot_kept x (F.main c x h i))));
+            F.marked c _ h (inr (x, i, sym (same_slot M M' x (F.main c x h i))));
         only_marked = λ s h. only s h (f.only_marked s (F.only s h));
         copies = F.copies;
         subs = F.subs;
@@ -111,7 +112,7 @@ module _ {m : MultiPortGraph} {M : Model} {m' : MultiPortGraph} {M' : Model} (f 
           copy_port c j (copy_slot_kept c j ∙ e)
       only s h (main_port_lem c x i q e) =
           let j : is_hidden m' c ≡ true = F.stays c s i h (inr (x, q, e)) in
-          main_port_lem c x j (copy_join_kept c j ∙ q) (slot_kept x (F.main c x j q) ∙ e)
+          main_port_lem c x j (copy_join_kept c j ∙ q) (same_slot M M' x (F.main c x j q) ∙ e)
 
   -- an end is where it was
   pub outer_kept : (z : model.InnerPlace) → is_hidden m' z.node ≡ is_hidden m z.node → outer m' M' z ≡ outer m M z
@@ -170,6 +171,11 @@ pub record Alike (m : MultiPortGraph) (M : Model) (m' : MultiPortGraph) (M' : Mo
 pub same_wire : {a b c d : Place} → a ≡ b → c ≡ d → ◌≡◌ {A = Wire} (record { out = a; into = c }) (record { out = b; into = d })
 same_wire p q = λ i. record { out = p i; into = q i }
 
+-- a wire is one of another graph where its places are linked, the first is an end, and both are seen from outside as they were
+pub wire_again : {m : MultiPortGraph} {M : Model} {m' : MultiPortGraph} {M' : Model} {w : Wire} (e : WireIn m M w) → M'.join e.x ≡ to e.y → IsEnd m' M' e.x
+    → outer m' M' e.x ≡ outer m M e.x → outer m' M' e.y ≡ outer m M e.y → WireIn m' M' w
+wire_again e j end p q = record { x = e.x; y = e.y; joined = j; outgoing = e.outgoing; end = end; is = e.is ∙ same_wire (sym p) (sym q) }
+
 module _ {m : MultiPortGraph} {M : Model} {m' : MultiPortGraph} {M' : Model} (f : Fine m M) (F : Frame m M m' M') where
   pub slot_alike : (z : model.InnerPlace) → Alike m M m' M' z → slot_of M'.node z ≡ slot_of M.node z
   slot_alike z a = ap (λ (s : Slots). model.first_of s + (model.side_start s z.side + z.pos)) a.node
@@ -191,23 +197,7 @@ module _ {m : MultiPortGraph} {M : Model} {m' : MultiPortGraph} {M' : Model} (f 
       }
 
   pub wire_kept : (w : Wire) (e : WireIn m M w) → M'.join e.x ≡ to e.y → Alike m M m' M' e.x → is_hidden m' e.y.node ≡ is_hidden m e.y.node → WireIn m' M' w
-  wire_kept w e j a b =
-      record {
-        x = e.x;
-        y = e.y;
-        joined = j;
-        outgoing = e.outgoing;
-        end = end_kept e.x a e.end;
-        is = e.is ∙ same_wire (sym (outer_kept f F e.x a.hidden)) (sym (outer_kept f F e.y b));
-      }
+  wire_kept w e j a b = wire_again e j (end_kept e.x a e.end) (outer_kept f F e.x a.hidden) (outer_kept f F e.y b)
 
   pub kept_wire : (w : Wire) (e : WireIn m' M' w) → M.join e.x ≡ to e.y → Alike m M m' M' e.x → is_hidden m' e.y.node ≡ is_hidden m e.y.node → WireIn m M w
-  kept_wire w e j a b =
-      record {
-        x = e.x;
-        y = e.y;
-        joined = j;
-        outgoing = e.outgoing;
-        end = kept_end e.x a e.end;
-        is = e.is ∙ same_wire (outer_kept f F e.x a.hidden) (outer_kept f F e.y b);
-      }
+  kept_wire w e j a b = wire_again e j (kept_end e.x a e.end) (sym (outer_kept f F e.x a.hidden)) (sym (outer_kept f F e.y b))

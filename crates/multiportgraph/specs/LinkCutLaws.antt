@@ -1,10 +1,9 @@
 -- The empty graph; adding a block; linking two free ends; cutting an end; the calls on subports.
 -- Each leaves a fine graph, with blocks and wires as said.
 use Rattle.std.proofs.lemmas.Bool.{cases_Bool}
-use Rattle.std.specs.Prelude.{◌≡◌, refl, Bool, true, false, cond, ◌||◌, List, [], ◌∷◌, ◌⊎◌, ℕ, ◌+◌, ◌-◌, ◌*◌, ◌≤◌, eqb, leb, ltb, length, get_or, replicate, Option, Some, None, Result, Ok, Err}
-use Rattle.std.proofs.Common.{sym, ◌∙◌, ap, subst, inl, inr, ⊎_elim, arith, eq-eqb, eqb-true, leb-true, ltb-true, ltb-false}
-use Rattle.std.proofs.lemmas.List.{length-replicate, get_or-replicate}
-use Rattle.std.proofs.Math.ListN.{get_or-eq_default}
+use Rattle.std.specs.Prelude.{◌≡◌, refl, Bool, true, false, cond, ◌||◌, List, [], ◌∷◌, ◌⊎◌, ℕ, ◌+◌, ◌-◌, ◌≤◌, eqb, leb, Option, Some, None, Result, Ok, Err}
+use Rattle.std.proofs.Common.{sym, ◌∙◌, ap, subst, inl, inr, ⊎_elim, arith, eq-eqb, eqb-true, leb-true}
+use Rattle.std.proofs.lemmas.List.{length-replicate}
 use Rattle.port_tables.specs.Limits.{node_slots, port_slots, node_ports, present}
 use Rattle.port_tables.specs.Lists.{Member}
 use Rattle.portgraph.specs.Model as model
@@ -16,10 +15,10 @@ use Rattle.portgraph.specs.Calls.{link_ports, unlink_port, with_links, place_nod
 use Rattle.port_tables.specs.TableSteps.{link_count_none}
 use Rattle.portgraph.specs.LinkLaws.{cut_none}
 use Rattle.portgraph.specs.PlaceLaws.{link_none}
-use Rattle.portgraph.specs.Sums.{total_bound, link_near, link_far, link_other, drop_kept, drop_joined, same_place_distinct, same_place_false, same_side_refl, same_side_true, upd_other, upd_same}
-use Rattle.portgraph.specs.GoodSlots.{slots_apart, zero_is_not_one, gone_not_live, upd_elim, joined_is_valid, slot_in_block}
+use Rattle.portgraph.specs.Sums.{link_near, link_far, link_other, drop_kept, drop_joined, same_place_distinct, same_place_false, same_side_refl, same_side_true, upd_other, upd_same}
+use Rattle.portgraph.specs.GoodSlots.{slots_apart, gone_not_live, upd_elim, joined_is_valid, slot_in_block}
 use Rattle.portgraph.specs.GoodLaws.{empty_model, good_empty, good_link, good_unlink, good_add, link_elim, next_slot_gone}
-use Rattle.portgraph.specs.LinkHolds.{new_holds, link_holds, link_done, unlink_holds, unlink_linked, unlink_free, link_accepted, LinkMade}
+use Rattle.portgraph.specs.LinkHolds.{new_holds, link_holds, link_done, unlink_holds, unlink_linked, unlink_free, link_accepted, LinkMade, total_none}
 use Rattle.portgraph.specs.SlotHolds.{add_law, add_where, slot_room, block_room, place_holds}
 use Rattle.port_tables.specs.declared.direction.Direction.{Direction}
 use Rattle.port_tables.specs.declared.direction.Direction.TheVariants.{Incoming, Outgoing}
@@ -51,6 +50,8 @@ use Rattle.multi_tables.specs.declared.answers.Refusal.{Refusal}
 use Rattle.multi_tables.specs.declared.answers.PortPlace.{PortPlace}
 use Rattle.portgraph.specs.declared.portgraph.LinkError.TheVariants as link_error
 use Rattle.portgraph.specs.declared.portgraph.LinkError.{LinkError}
+use Rattle.portgraph.specs.Joins.{nowhere_not_to, to_same}
+use Rattle.port_tables.specs.Listing.{get_or-replicate_default}
 
 -- Other links between the same nodes.
 
@@ -103,12 +104,6 @@ pub record Joined (m : MultiPortGraph) (M : Model) (m' : MultiPortGraph) (M' : M
   pub fine : Fine m' M'
   pub blocks : SameBlocks m M m' M'
   pub wires : Wiring m M m' M' none more
-
-pub nowhere_not_to : {v : Far} {y : model.InnerPlace} → v ≡ nowhere → v ≡ to y → ⊥
-nowhere_not_to p q = zero_is_not_one (cc)
-
-pub to_same : {v : Far} {x y : model.InnerPlace} → v ≡ to x → v ≡ to y → x ≡ y
-to_same p q = cc
 
 module _ {m : MultiPortGraph} {M : Model} (f : Fine m M) (x y : model.InnerPlace) (ex : IsEnd m M x) (ey : IsEnd m M y)
     (fx : M.join x ≡ nowhere) (fy : M.join y ≡ nowhere) (apart : x.side ≡ y.side → ⊥) where
@@ -320,26 +315,13 @@ module _ {m : MultiPortGraph} {M : Model} (f : Fine m M) (x : model.InnerPlace) 
 
 -- The empty graph.
 
-all_false : (n i : ℕ) → get_or (replicate n false) i false ≡ false
-all_false n i = go (ltb i n) refl
-  where
-    go : (b : Bool) → ltb i n ≡ b → get_or (replicate n false) i false ≡ false
-    go true e = get_or-replicate n i false false (ltb-true i n e)
-    go false e = get_or-eq_default (replicate n false) false (let l : length (replicate n false) ≡ n = length-replicate n false in let h = ltb-false i n e in omega arith)
-
 pub none_hidden : (release : Release) (c : ℕ) → is_hidden (empty_graph release) c ≡ false
 unfolding is_hidden empty_graph
-none_hidden release c = all_false node_slots c
+none_hidden release c = get_or-replicate_default node_slots c false
 
 pub none_split : (release : Release) (s : ℕ) → is_split (empty_graph release) s ≡ false
 unfolding is_split empty_graph
-none_split release s = all_false port_slots s
-
-total_none : (n : ℕ) (f : ℕ → ℕ) → ((i : ℕ) → f i ≡ 0) → 0 ≡ total n f
-total_none n f none =
-    let h : total n f ≤ n * 0 = total_bound n 0 f (λ i l. let e : f i ≡ 0 = none i in omega arith) in
-    let z : n * 0 ≡ 0 = omega arith in
-    omega arith
+none_split release s = get_or-replicate_default port_slots s false
 
 pub fine_empty : (release : Release) → Fine (empty_graph release) empty_model
 unfolding empty_graph
@@ -353,8 +335,8 @@ fine_empty release =
       copy_marked = λ c h. absurd (true_not_false h (none_hidden release c));
       main_marked = λ c x h e. absurd (true_not_false h (none_hidden release c));
       only_marked = λ s h. absurd (true_not_false h (none_split release s));
-      copies = total_none node_slots _ (λ n. ap flag (none_hidden release n));
-      subs = total_none node_slots _ (λ n. ap (λ (b : Bool). cond b (ports_of (empty_model.node n) - 1) 0) (none_hidden release n));
+      copies = sym (total_none node_slots _ (λ n. ap flag (none_hidden release n)));
+      subs = sym (total_none node_slots _ (λ n. ap (λ (b : Bool). cond b (ports_of (empty_model.node n) - 1) 0) (none_hidden release n)));
     }
 
 pub empty_has_no_wire : (release : Release) (w : Wire) → WireIn (empty_graph release) empty_model w → ⊥

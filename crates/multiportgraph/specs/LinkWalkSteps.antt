@@ -6,7 +6,8 @@ use Rattle.std.proofs.Math.Bool.{true, false}
 use mathlib.Core.List.{List, [], ◌∷◌, ◌++◌, append-nil, flat_map}
 use Prim.Native.Nat.{ℕ, suc, ◌+◌, ◌-◌, ◌≤◌, ◌<◌}
 use native.Mathlib.Omega.{arith}
-use Rattle.port_tables.specs.Lists.{range, filter, on_first, on_last}
+use Rattle.port_tables.specs.Lists.{range, on_first, on_last}
+use Rattle.std.specs.List.{filter}
 use Rattle.port_tables.specs.Entries.{same_side, node#, ports_from, ports_to}
 use Rattle.port_tables.specs.declared.direction.Direction.{Direction}
 use Rattle.port_tables.specs.declared.direction.Direction.TheVariants.{Incoming, Outgoing}
@@ -23,7 +24,7 @@ use Rattle.multiportgraph.specs.TableReadLaws.{seen_read}
 use Rattle.multiportgraph.specs.Wires.{is_block, side_links, held_at}
 use Rattle.multiportgraph.specs.Walks.{both_seen, between, by_sides, port_links_seen, port_links, links_left, step_front, step_back, link_beyond, node_links, step_links, is_own_output, not_ignored, neighbour_links, neighbours_item, step_neighbours, connections, connections_item, links_item, step_connections}
 use Rattle.port_tables.specs.Listing.{filter_same}
-use Rattle.multiportgraph.specs.ScanLaws.{range_append, range_between, flat_map_append, block_not_hidden}
+use Rattle.multiportgraph.specs.ScanLaws.{range_append, range_between, block_not_hidden, flat_map_append}
 use Rattle.multiportgraph.specs.LookupSteps.{block_at, meta_is}
 use Rattle.multi_tables.specs.Scans.{first_found, span_first, span_count, not_own_output, passes_in, links_in, beyond_in, end_before}
 use Rattle.multi_tables.specs.ScanSteps.{filter_every}
@@ -202,7 +203,7 @@ module _ (links owners : List ℕ) (flags : List Bool) (p first : ℕ) where
   -- a single end gives one link at most
   last_of_one : (a : List SubportLink) (s : SubportIndex) (x : Result (Option (SubportIndex × PortPlace)) Refusal) (r : Option SubportLink) → r ≡ first_found (filter (λ (v : SubportLink). true) (wire_to s x))
       → ((w : SubportLink) → r ≡ Some w → r ≡ last_found (a ++ wire_to s x)) × (r ≡ None → last_found a ≡ last_found (a ++ wire_to s x))
-  unfolding first_found filter last_found
+  unfolding first_found last_found
   last_of_one a s (Ok (Some (t, x))) r e = (λ w h. e ∙ sym (last_after None a (record { from = s; to = t; place = x })), λ h. let z : ◌≡◌ {A = ℕ} 0 1 = cc in absurd (omega arith))
   last_of_one a s (Ok None) r e = (λ w h. let z : ◌≡◌ {A = ℕ} 0 1 = cc in absurd (omega arith), λ h. ap (on_last None Some) (sym (append-nil a)))
   last_of_one a s (Err q) r e = (λ w h. let z : ◌≡◌ {A = ℕ} 0 1 = cc in absurd (omega arith), λ h. ap (on_last None Some) (sym (append-nil a)))
@@ -237,7 +238,7 @@ module _ (marks : List Bool) (links owners : List ℕ) (flags : List Bool) (p : 
 
 module _ (m : MultiPortGraph) (c : PortLinks) where
   left_unseen : (s : Port) → seen m c.port.0 ≡ s → port_links_seen m c.port.0 s ≡ [] → links_left m c ≡ []
-  unfolding links_left port_links filter
+  unfolding links_left port_links
   left_unseen s e f = rw (e, f)
 
   pub front_unseen : (s : Port) → seen m c.port.0 ≡ s → port_links_seen m c.port.0 s ≡ [] → None ≡ step_front m c

@@ -9,7 +9,8 @@ use native.Mathlib.Omega.{arith}
 use Rattle.std.proofs.Math.ListN.{get_or}
 use borrow.Author.Tests.{eq-eqb, ne_eqb, lt-ltb}
 use Rattle.port_tables.specs.Limits.{node_slots, node_ports}
-use Rattle.port_tables.specs.Lists.{range, filter, Member}
+use Rattle.port_tables.specs.Lists.{range, Member}
+use Rattle.std.specs.List.{filter}
 use Rattle.port_tables.specs.Entries.{reversed, port#}
 use Rattle.port_tables.specs.Tables.{at}
 use Rattle.portgraph.specs.Lookups.{meta_at, is_some, count_in, port_link}
@@ -28,13 +29,12 @@ use Rattle.multi_tables.specs.Forms.{visible, inner, End, subport#, wire_to, fla
 use Rattle.multiportgraph.specs.Calls.{visible_nodes, visible_links}
 use Rattle.multiportgraph.specs.Wires.{is_block, blocks, wire_of, side_links, all_wires, place_of}
 use Rattle.multiportgraph.specs.Walks.{port_links}
-use Rattle.multi_tables.specs.FormSteps.{flag_is}
 use Rattle.multiportgraph.specs.WellFormed.{inner#, copy_place, MultiWf, IsEnd}
 use Rattle.multiportgraph.specs.Ends.{Hangs, EndOf, BlockPort, block_seen, split_has_copy, owner_of_lem, position_of_lem, end_side, end_read, ends_join_ends, other_side, main_seen, main_side, subport_of_hidden, subport_of_block, map_range}
 use Rattle.port_tables.specs.Listing.{member_range}
 use Rattle.multi_tables.specs.TableReads.{far_in, owner_in}
-use Rattle.multiportgraph.specs.TableReadLaws.{far_is, owner_read, mark_told}
-use Rattle.multiportgraph.specs.ScanLaws.{links_from_to, ports_across, range_append, flat_map_append, flat_map_same, flat_map_map, flat_map_flat_map, port_seen_there, side_in_row, links_in_row, links_of_split, links_of_plain}
+use Rattle.multiportgraph.specs.TableReadLaws.{far_is, owner_read, mark_told, flag_told}
+use Rattle.multiportgraph.specs.ScanLaws.{links_from_to, ports_across, range_append, flat_map_same, flat_map_map, flat_map_flat_map, port_seen_there, side_in_row, links_in_row, links_of_split, links_of_plain, flat_map_append}
 use Rattle.multiportgraph.specs.CallSteps.{lower_wf}
 use Rattle.multiportgraph.specs.CountLaws.{visible_nodes_lem, visible_links_lem}
 use Rattle.multiportgraph.specs.Listed.{end_numbers, wire_numbers, wires_listed, first_port, block_numbers, blocks_listed, list_after, list_answer}
@@ -51,7 +51,7 @@ use Rattle.portgraph.specs.declared.portgraph.NoSuchPort.{NoSuchPort}
 
 -- what is gathered over those for which a test holds
 flat_map_filter : {A B : Type 0} (f : A → List B) (t : A → Bool) (l : List A) → flat_map f (filter t l) ≡ flat_map (λ x. cond (t x) (f x) []) l
-unfolding flat_map filter
+unfolding flat_map
 flat_map_filter f t [] = refl
 flat_map_filter {A} {B} f t (x ∷ l) = go (t x) (flat_map_filter f t l)
   where
@@ -80,7 +80,7 @@ flat_map_length f c h (x ∷ l) =
     go : c + c * length l ≡ c * suc (length l)
     go = omega arith
 
-wire_length : (m : MultiPortGraph) (w : SubportLink) → length (wire_numbers m w) ≡ 8
+pub wire_length : (m : MultiPortGraph) (w : SubportLink) → length (wire_numbers m w) ≡ 8
 unfolding wire_numbers end_numbers
 wire_length m w = refl
 
@@ -89,7 +89,7 @@ pub wires_length : (m : MultiPortGraph) → length (wires_listed m) ≡ 8 * leng
 unfolding wires_listed
 wires_length m = flat_map_length (wire_numbers m) 8 (wire_length m) (all_wires m)
 
-block_length : (m : MultiPortGraph) (n : ℕ) → length (block_numbers m n) ≡ 4
+pub block_length : (m : MultiPortGraph) (n : ℕ) → length (block_numbers m n) ≡ 4
 unfolding block_numbers
 block_length m n = refl
 
@@ -123,10 +123,6 @@ module _ (graph : MultiPortGraph) (w : MultiWf graph) where
 
   live_meta : (n : ℕ) (k : NodeMeta) → meta_in graph.graph.node_meta n ≡ Some k → M.node n ≡ live k
   live_meta n k e = node_of_meta w.fine.good w.fine.holds n k (sym (meta_there n) ∙ e)
-
-  flag_told : (n : ℕ) → flag_at graph.copy_node node_slots n ≡ is_hidden graph n
-  unfolding is_hidden
-  flag_told n = flag_is graph.copy_node node_slots n w.fine.flags_long
 
   -- Ends.
 
@@ -163,7 +159,7 @@ module _ (graph : MultiPortGraph) (w : MultiWf graph) where
   far_end_is y e s = go (is_hidden graph y.node) refl
     where
       told : (b : Bool) → is_hidden graph y.node ≡ b → flag_at graph.copy_node node_slots (owner_in graph.graph.port_meta (slot_of M.node y)) ≡ b
-      told b h = ap (flag_at graph.copy_node node_slots) (owner_in_lem y e.valid) ∙ (flag_told y.node ∙ h)
+      told b h = ap (flag_at graph.copy_node node_slots) (owner_in_lem y e.valid) ∙ (flag_told w.fine y.node ∙ h)
 
       go : (b : Bool) → is_hidden graph y.node ≡ b → end_words (far_end graph.graph.node_meta graph.graph.port_link graph.graph.port_meta graph.copy_node (slot_of M.node y)) ≡ end_numbers graph (subport_of graph (slot_of M.node y))
       go false h = rw (told false h) (in_end_is y 0 e.valid s ∙ ap (end_numbers graph) (sym (subport_of_block w.fine y (e.valid, h))))
@@ -349,7 +345,7 @@ module _ (graph : MultiPortGraph) (w : MultiWf graph) where
   module _ (f : ℕ → NodeMeta → List ℕ) (g : ℕ → List ℕ) (same : (n : ℕ) (k : NodeMeta) → is_hidden graph n ≡ false → meta_at graph.graph n ≡ Some k → f n k ≡ g n) where
     slot_gives : (n : ℕ) → of_block (f n) (flag_at graph.copy_node node_slots n) (meta_in graph.graph.node_meta n) ≡ cond (is_block graph n) (g n) []
     unfolding is_block
-    slot_gives n = (λ i. of_block (f n) (flag_told n i) (meta_there n i)) ∙ go (is_hidden graph n) refl (meta_at graph.graph n) refl
+    slot_gives n = (λ i. of_block (f n) (flag_told w.fine n i) (meta_there n i)) ∙ go (is_hidden graph n) refl (meta_at graph.graph n) refl
       where
         go : (b : Bool) → is_hidden graph n ≡ b → (x : Option NodeMeta) → meta_at graph.graph n ≡ x → of_block (f n) b x ≡ cond (cond b false (is_some x)) (g n) []
         go true h None e = refl

@@ -111,9 +111,13 @@ table_blocks nodes flags len = flat_map (node_block nodes flags) (range 0 len)
 abbrev pub AllFit : List NodeSlot → Type 0
 AllFit nodes = (n : ℕ) (k : NodeMeta) → meta_in nodes n ≡ Some k → BlockFits k
 
--- What a pass keeps, over a list of which whole is to be written from place at on: where rest is written from the present
--- place on, the whole is.
+-- What writing keeps, over a list of which whole is to be written from place at on: where rest is written from the present place on, the
+-- whole is.
 pub record Writing (list₀ : List ℕ) (at : ℕ) (whole list : List ℕ) (place : ℕ) (rest : List ℕ) : Type 0 where
   pub counted : place + length rest ≡ at + length whole
   pub same : sets list place rest ≡ sets list₀ at whole
   pub long : length list ≡ length list₀
+
+-- and over a pass whose rest is what items gives for each number from `from` on and below `end`
+pub record Passing (list₀ whole list : List ℕ) (place : ℕ) (items : ℕ → List ℕ) (from end : ℕ) : Type 0 where
+  pub writing : Writing list₀ 0 whole list place (flat_map items (range from (end - from)))

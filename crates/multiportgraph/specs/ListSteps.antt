@@ -1,5 +1,5 @@
 -- Steps of the passes that list wires and blocks, over plain values.
-use Rattle.std.specs.Prelude.{◌≡◌, refl, Bool, true, false, ℕ, suc, ◌+◌, ◌-◌, ◌≤◌, ◌<◌, Option, Some, None, Ok, Err}
+use Rattle.std.specs.Prelude.{◌≡◌, refl, Bool, true, false, ℕ, ◌+◌, ◌-◌, ◌≤◌, ◌<◌, Option, Some, None, Ok, Err}
 use Rattle.std.proofs.Common.{sym, ◌∙◌, length-append, append_assoc, append-nil, length-drop, drop_of_length-le}
 use Rattle.std.proofs.Math.Path.{ap}
 use mathlib.Core.List.{List, [], ◌++◌, flat_map}
@@ -14,8 +14,9 @@ use Rattle.port_tables.specs.Lists.{range}
 use Rattle.port_tables.specs.ResizeLinkSteps.{sets_append}
 use Rattle.port_tables.specs.declared.node_entry.NodeMeta.{NodeMeta}
 use Rattle.multiportgraph.specs.Listed.{list_after, list_answer}
-use Rattle.multiportgraph.specs.ListScans.{of_block, shown_meta, subport_wire, split_wires, place_wires, side_wires, Writing}
+use Rattle.multiportgraph.specs.ListScans.{of_block, shown_meta, subport_wire, split_wires, place_wires, side_wires, Passing}
 use Rattle.port_tables.specs.declared.node_entry.NodeSlot.{NodeSlot}
+use Rattle.port_tables.specs.Listing.{flat_map_on, flat_map_end}
 
 -- Lists.
 
@@ -40,70 +41,57 @@ part_laid l part ys p h e =
     (λ j. take p l ++ (is j ++ none j))
     ∙ (ap (λ r. take p l ++ r) (append-nil (part ++ drop (0 + length part) (drop p l))) ∙ laid l part part p (0 + length part) h refl (omega arith))
 
-module _ {l₀ whole l : List ℕ} {at p : ℕ} where
-  -- a part is written
-  part_written : (part rest : List ℕ) {l' : List ℕ} {p' : ℕ} → Writing l₀ at whole l p (part ++ rest) → p' ≡ p + length part → l' ≡ sets l p part → Writing l₀ at whole l' p' rest
-  part_written part rest w e f =
-      let c = w.counted in
-      let n = length-append part rest in
-      record {
-        counted = omega arith;
-        same = rw (e, f) (sets_append l p part rest ∙ w.same);
-        long = ap length f ∙ (length-sets l p part ∙ w.long);
-      }
-
-  -- there is room for it
-  part_fits : (part rest : List ℕ) → Writing l₀ at whole l p (part ++ rest) → at + length whole ≤ length l₀ → p + length part ≤ length l
-  part_fits part rest w h =
-      let c = w.counted in
-      let n = length-append part rest in
-      let g = w.long in
-      omega arith
-
--- the lists that f gives for the numbers from o on and below n: the first, and the rest
-flat_map_on : (f : ℕ → List ℕ) (o n : ℕ) → o < n → flat_map f (range o (n - o)) ≡ f o ++ flat_map f (range (o + 1) (n - (o + 1)))
-unfolding flat_map range
-flat_map_on f o n h =
-    let e : n - o ≡ suc (n - (o + 1)) = omega arith in
-    let s : o + 1 ≡ suc o = omega arith in
-    rw (e, s)
-
-flat_map_end : (f : ℕ → List ℕ) (o n : ℕ) → n ≤ o → flat_map f (range o (n - o)) ≡ []
-unfolding flat_map range
-flat_map_end f o n h = let e : n - o ≡ 0 = omega arith in rw e
-
 -- A pass that writes what f gives for each number below n.
-module _ (f : ℕ → List ℕ) where
-  module _ {l₀ l : List ℕ} {at p o n : ℕ} (w : Writing l₀ at (flat_map f (range 0 n)) l p (flat_map f (range o (n - o)))) where
-    module _ (h : o < n) where
-      here : Writing l₀ at (flat_map f (range 0 n)) l p (f o ++ flat_map f (range (o + 1) (n - (o + 1))))
-      here = rw (sym (flat_map_on f o n h)) w
 
-      pub item_fits : at + length (flat_map f (range 0 n)) ≤ length l₀ → p + length (f o) ≤ length l
-      item_fits k = part_fits (f o) (flat_map f (range (o + 1) (n - (o + 1)))) here k
+pub begun : {f : ℕ → List ℕ} {l whole : List ℕ} {n : ℕ} → flat_map f (range 0 n) ≡ whole → Passing l whole l 0 f 0 n
+begun {f} {l} {n = n} e =
+    let z : n - 0 ≡ n = omega arith in
+    let all = ap (λ (k : ℕ). flat_map f (range 0 k)) z ∙ e in
+    let c = ap length all in
+    record { writing = record { counted = omega arith; same = ap (sets l 0) all; long = refl } }
 
-      pub item_written : {l' : List ℕ} {p' : ℕ} → p' ≡ p + length (f o) → l' ≡ sets l p (f o) → Writing l₀ at (flat_map f (range 0 n)) l' p' (flat_map f (range (o + 1) (n - (o + 1))))
-      item_written e g = part_written (f o) (flat_map f (range (o + 1) (n - (o + 1)))) here e g
+module _ {f : ℕ → List ℕ} {l₀ whole l : List ℕ} {p o n : ℕ} (w : Passing l₀ whole l p f o n) where
+  module _ (h : o < n) (room : length whole ≤ length l₀) where
+    abbrev rest : List ℕ
+    rest = flat_map f (range (o + 1) (n - (o + 1)))
 
-      -- there is room for it in the rest of the list
-      pub item_room : at + length (flat_map f (range 0 n)) ≤ length l₀ → length (f o) ≤ length (take (length l - p) (drop p l))
-      item_room k = let a = item_fits k in let d = length-drop p l in rw (take_rest l p) (omega arith)
+    pub item_fits : p + length (f o) ≤ length l
+    item_fits =
+        let s = ap length (flat_map_on f o n h) ∙ length-append (f o) rest in
+        let c = w.writing.counted in
+        let g = w.writing.long in
+        omega arith
 
-      -- it is written at the front of the rest of the list
-      pub item_laid : at + length (flat_map f (range 0 n)) ≤ length l₀ → (ys : List ℕ) (k : ℕ) → (k ≡ length (f o)) × (ys ≡ sets (take (length l - p) (drop p l)) 0 (f o))
-          → Writing l₀ at (flat_map f (range 0 n)) (put_mid p (length l - p) l ys) (p + k) (flat_map f (range (o + 1) (n - (o + 1)))) × (p + k ≤ length (put_mid p (length l - p) l ys))
-      item_laid fits ys k e =
-          let room = item_fits fits in
-          let laid = part_laid l (f o) ys p room e.1 in
-          let size = ap length laid ∙ length-sets l p (f o) in
-          let count = e.0 in
-          (item_written (ap (λ j. p + j) e.0) laid, omega arith)
+    -- there is room for it in the rest of the list
+    pub item_room : length (f o) ≤ length (take (length l - p) (drop p l))
+    item_room = let a = item_fits in let d = length-drop p l in rw (take_rest l p) (omega arith)
 
-    pub items_written : n ≤ o → (p ≡ at + length (flat_map f (range 0 n))) × (l ≡ sets l₀ at (flat_map f (range 0 n)))
-    items_written h =
-        let z : Writing l₀ at (flat_map f (range 0 n)) l p [] = rw (sym (flat_map_end f o n h)) w in
-        let c = z.counted in
-        (omega arith, z.same)
+    -- it is written at the front of the rest of the list
+    pub item_laid : {ys : List ℕ} {k : ℕ} → (k ≡ length (f o)) × (ys ≡ sets (take (length l - p) (drop p l)) 0 (f o))
+        → Passing l₀ whole (put_mid p (length l - p) l ys) (p + k) f (o + 1) n × (p + k ≤ length (put_mid p (length l - p) l ys))
+    item_laid {ys} {k} e =
+        let fits = item_fits in
+        let laid = part_laid l (f o) ys p fits e.1 in
+        let long = ap length laid ∙ length-sets l p (f o) in
+        let s = ap length (flat_map_on f o n h) ∙ length-append (f o) rest in
+        let c = w.writing.counted in
+        let g = w.writing.long in
+        let k_is = e.0 in (
+          record {
+            writing = record {
+              counted = omega arith;
+              same = (λ i. sets (laid i) (p + k_is i) rest) ∙ sets_append l p (f o) rest ∙ sym (ap (sets l p) (flat_map_on f o n h)) ∙ w.writing.same;
+              long = omega arith;
+            };
+          },
+          omega arith,
+        )
+
+  pub items_written : n ≤ o → (p ≡ length whole) × (l ≡ sets l₀ 0 whole)
+  items_written h =
+      let c = ap length (flat_map_end f o n h) in
+      let d = w.writing.counted in
+      (omega arith, sym (ap (sets l p) (flat_map_end f o n h)) ∙ w.writing.same)
 
 -- Answers.
 
@@ -134,10 +122,6 @@ pub side_is : (nodes : List NodeSlot) (links owners : List ℕ) (marks flags : L
     → flat_map (place_wires nodes links owners marks flags n (a + b)) (range 0 count) ≡ side_wires nodes links owners marks flags n k
 unfolding side_wires
 side_is nodes links owners marks flags n k a b count e f g = λ j. flat_map (place_wires nodes links owners marks flags n (e j + f j)) (range 0 (g j))
-
--- a part that is written under another name
-pub written_as : (l v w : List ℕ) {l' : List ℕ} {r : ℕ} → v ≡ w → (r ≡ 0 + length v) × (l' ≡ sets l 0 v) → (r ≡ length w) × (l' ≡ sets l 0 w)
-written_as l v w e x = let n = x.0 in let k = ap length e in (omega arith, x.1 ∙ ap (sets l 0) e)
 
 -- Blocks.
 

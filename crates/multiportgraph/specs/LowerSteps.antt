@@ -12,7 +12,7 @@ use Rattle.port_tables.specs.declared.direction.Direction.{Direction}
 use Rattle.port_tables.specs.declared.port_entry.PortMeta.{PortMeta}
 use Rattle.port_tables.specs.declared.port_entry.PortEntry.TheVariants as port_variants
 use Rattle.portgraph.specs.declared.portgraph.PortUnlinked as lower_unlinked
-use Rattle.multiportgraph.specs.Reading.{seen, is_split, end_at}
+use Rattle.multiportgraph.specs.Reading.{seen, is_split, end_at, link_of_end}
 use Rattle.multi_tables.specs.Forms.{Port, dead, hidden, visible, End, inner, lacking, good_offset}
 use Rattle.multiportgraph.specs.Calls.{cut_sub, cut_plain, cut_port, subport_link}
 use Rattle.multiportgraph.specs.Graph.{with_graph}
@@ -21,19 +21,40 @@ use Rattle.multiportgraph.specs.Presumed.{OnBlock}
 use Rattle.multiportgraph.specs.CallSteps.{cut_port_plain}
 use Rattle.multi_tables.specs.TableReads.{seen_in, wire_in, plain_in}
 use Rattle.multiportgraph.specs.TableReadLaws.{seen_read, end_read_off, end_is_port, plain_read_lem}
-use Rattle.multiportgraph.specs.Named.{cut_at, read_named, cut_named}
+use Rattle.multiportgraph.specs.Named.{cut_at}
 use Rattle.multi_tables.specs.NamedEnds.{end_or, end_seen, end_named}
-use Rattle.multiportgraph.specs.NamedLaws.{link_of_named, cut_of_named, cut_done}
+use Rattle.multiportgraph.specs.NamedLaws.{cut_done}
 use Rattle.multiportgraph.specs.declared.multiportgraph.MultiPortGraph.{MultiPortGraph}
 use Rattle.multi_tables.specs.declared.answers.SubportIndex.{SubportIndex}
 use Rattle.multi_tables.specs.declared.answers.Refusal.TheVariants.{BadOffset}
 use Rattle.multiportgraph.specs.declared.multiportgraph.PortUnlinked.{PortUnlinked}
 use Rattle.multi_tables.specs.declared.answers.Refusal.{Refusal}
 use Rattle.multi_tables.specs.declared.answers.PortPlace.{PortPlace}
+use Rattle.multiportgraph.specs.CaseLaws.{cut_sub_cases, subport_link_cases}
+use Rattle.multiportgraph.specs.Cases.{cut_end, cut_sub_seen, link_of_seen, cut_refused}
 
 -- an inner port that is live
 abbrev Live : MultiPortGraph → ℕ → Type 0
 Live m x = (k : PortMeta) × (port_at m.graph x ≡ port_variants.Port k)
+
+-- what is cut is what the subport was linked with
+pub link_cut : (m : MultiPortGraph) (p o : ℕ) → subport_link m p o ≡ (cut_sub m p o).answer
+unfolding unlink_port
+link_cut m p o =
+    subport_link_cases m p o ∙ (sym (offset (good_offset o)) ∙ ap (λ (v : PortUnlinked). v.answer) (sym (cut_sub_cases m p o)))
+  where
+    ends : (v : End) → (cut_end m p v).answer ≡ link_of_end m p v
+    ends (inner x) = refl
+    ends lacking = refl
+
+    ports : (v : Port) → (cut_sub_seen m p o v).answer ≡ link_of_seen m p o v
+    ports dead = refl
+    ports hidden = refl
+    ports (visible n d) = ends (end_at m p d o)
+
+    offset : (b : Bool) → (cond b (cut_sub_seen m p o (seen m p)) (cut_refused m BadOffset)).answer ≡ cond b (link_of_seen m p o (seen m p)) (Err BadOffset)
+    offset true = ports (seen m p)
+    offset false = refl
 
 module _ {m : MultiPortGraph} (w : MultiWf m) where
   -- An end that is cut.
@@ -73,14 +94,6 @@ module _ {m : MultiPortGraph} (w : MultiWf m) where
   end_cut_below p o {x} {e} {r} {a} is told u k =
       cut_done w p o is told
       (λ i. record { graph = with_graph m ((ap (λ (z : lower_unlinked.PortUnlinked). z.graph) u ∙ live_cut x (live_named p o x (sym is ∙ told))) i); answer = k i })
-
-  -- what is cut is what the subport was linked with
-  pub link_cut : (p o : ℕ) → subport_link m p o ≡ (cut_sub m p o).answer
-  link_cut p o = link_of_named w.fine p o ∙ (go (end_named m.multiport m.graph.port_link m.graph.port_meta m.copy_node p o) ∙ ap (λ (u : PortUnlinked). u.answer) (sym (cut_of_named w.fine p o)))
-    where
-      go : (e : Result ℕ Refusal) → read_named m e ≡ (cut_named m e).answer
-      go (Ok x) = refl
-      go (Err r) = refl
 
   pub port_cut_below : {p : ℕ} {d : Direction} (b : OnBlock m p d) → is_split m p ≡ false → {r : lower_unlinked.PortUnlinked} {a : Result (Option (SubportIndex × PortPlace)) Refusal} → r ≡ unlink_port m.graph p →
       a ≡ plain_in m.graph.port_link m.graph.port_meta m.copy_node p → ◌≡◌ {A = PortUnlinked} (record { graph = with_graph m r.graph; answer = a }) (cut_port m p)

@@ -48,6 +48,7 @@ use Rattle.multiportgraph.specs.declared.needs.Takes.{Takes}
 use Rattle.multiportgraph.specs.HiddenNodes.{lowest_free, split, grow, reuse, prepare, prepare_under, reuse_under}
 use Rattle.multiportgraph.specs.Cases.{link_refused, link_second, link_live}
 use Rattle.multiportgraph.specs.Presumed.{OnBlock, LinkedPort, BothOnBlock, GrowPort}
+use Rattle.portgraph.specs.Joins.{either_way}
 
 -- the hidden node of a split port, with its meta data
 record CopyOf (m : MultiPortGraph) (p : ℕ) (d : Direction) : Type 0 where
@@ -285,10 +286,6 @@ growth_by : (size : ℕ) (l : List ℕ) → growth size l ≡ cond (is_none l) s
 growth_by size [] = refl
 growth_by size (x ∷ l) = refl
 
-zero_either : (b : Bool) → ◌≡◌ {A = ℕ} (cond b 0 0) 0
-zero_either true = refl
-zero_either false = refl
-
 -- whether no free block of a size is left, by those there were, after an end took and gave
 abbrev none_left : Takes → List ℕ → ℕ → Bool
 none_left t l size = cond (eqb size t.give) false (cond (eqb size t.take) (is_none (rest l)) (is_none l))
@@ -304,7 +301,7 @@ took_nothing : (r : Room) → Took r takes_nothing r
 took_nothing r =
     record {
       node_len = omega arith;
-      port_len = let g = growth_by 0 (r.free_blocks 0) in let z = zero_either (is_none (r.free_blocks 0)) in omega arith;
+      port_len = let g = growth_by 0 (r.free_blocks 0) in let z = either_way {A = ℕ} (is_none (r.free_blocks 0)) 0 in omega arith;
       nodes = refl;
       blocks = λ s l. rw (ne_eqb s 0 (λ q. omega arith));
     }
@@ -465,7 +462,7 @@ module _ (g : PortGraph) {M : Model} (h : Holds g M) where
       where
         -- no size, no growth
         same : (s : ℕ) → (0 < s → is_none (middle.free_blocks s) ≡ none_left (takes_of u) (M.free_blocks s) s) → cond (is_none (middle.free_blocks s)) s 0 ≡ cond (none_left (takes_of u) (M.free_blocks s) s) s 0
-        same zero k = zero_either (is_none (middle.free_blocks 0)) ∙ sym (zero_either (none_left (takes_of u) (M.free_blocks 0) 0))
+        same zero k = either_way {A = ℕ} (is_none (middle.free_blocks 0)) 0 ∙ sym (either_way {A = ℕ} (none_left (takes_of u) (M.free_blocks 0) 0) 0)
         same (suc s) k = ap (λ (b : Bool). cond b (suc s) 0) (k (omega arith))
 
     room_said : room_for g (takes_of u) (takes_of v) ≡ not (overflows (room_of M) (need_works u ++ need_works v))

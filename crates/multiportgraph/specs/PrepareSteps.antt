@@ -34,20 +34,17 @@ use Rattle.portgraph.specs.declared.alloc.AddError.{AddError}
 use Rattle.portgraph.specs.declared.alloc.AddError.TheVariants as add_error
 use Rattle.portgraph.specs.declared.resize.SetError.{SetError}
 use Rattle.multi_tables.specs.declared.answers.Refusal.TheVariants.{NoRoom}
+use Rattle.port_tables.specs.Listing.{flag_small}
 
 -- What a graph of the calls keeps small.
 
 pub lower_wf : (m : MultiPortGraph) → MultiWf m → Wf m.graph
 lower_wf m w = record { model = w.model; good = w.fine.good; holds = w.fine.holds }
 
-one_flag : (b : Bool) → flag b ≤ 1
-one_flag true = omega arith
-one_flag false = omega arith
-
 pub few_copies : (m : MultiPortGraph) → MultiWf m → m.copy_node_count ≤ node_slots
 few_copies m w =
     let e = w.fine.copies in
-    let h = total_bound node_slots 1 (λ n. flag (is_hidden m n)) (λ i l. one_flag (is_hidden m i)) in
+    let h = total_bound node_slots 1 (λ n. flag (is_hidden m n)) (λ i l. flag_small (is_hidden m i)) in
     omega arith
 
 pub few_subs : (m : MultiPortGraph) → MultiWf m → m.subport_count ≤ node_slots * node_ports

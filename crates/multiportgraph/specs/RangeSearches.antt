@@ -11,22 +11,23 @@ use Rattle.std.specs.declared.iter.Rev.{Rev}
 use Rattle.std.specs.declared.ops.Range.{Range}
 use Rattle.std.proofs.lemmas.Iterator.{YieldsList}
 use Rattle.std.proofs.lemmas.Iterator.Consumers.{YieldsList-from_shown}
-use Rattle.port_tables.specs.Lists.{range, filter, on_first, on_last}
-use Rattle.port_tables.specs.Listing.{filter_append}
+use Rattle.port_tables.specs.Lists.{range, on_first, on_last}
+use Rattle.std.specs.List.{filter}
 use Rattle.multiportgraph.specs.ScanLaws.{range_append}
+use Rattle.std.proofs.lemmas.List.Elements.{filter-append}
 
 -- From the front.
 
 module _ (f : ℕ → Bool) where
   first_none : (n a : ℕ) → ((k : ℕ) → k < n → f (a + k) ≡ false) → on_first {A = ℕ} {B = Option ℕ} None Some (filter f (range a n)) ≡ None
-  unfolding on_first filter range
+  unfolding on_first range
   first_none zero a h = refl
   first_none (suc n) a h =
       let z : a + 0 ≡ a = omega arith in
       rw (ap f (sym z) ∙ h 0 (omega arith)) (first_none n (suc a) (λ k l. let e : suc a + k ≡ a + suc k = omega arith in ap f e ∙ h (suc k) (omega arith)))
 
   first_some : (n a d : ℕ) → d < n → f (a + d) ≡ true → ((k : ℕ) → k < d → f (a + k) ≡ false) → on_first {A = ℕ} {B = Option ℕ} None Some (filter f (range a n)) ≡ Some (a + d)
-  unfolding on_first filter range
+  unfolding on_first range
   first_some zero a d l e h = absurd (omega arith)
   first_some (suc n) a zero l e h = let z : a + 0 ≡ a = omega arith in rw (ap f (sym z) ∙ e, z) refl
   first_some (suc n) a (suc d) l e h =
@@ -41,6 +42,10 @@ module _ (f : ℕ → Bool) where
   found_first from end (Some i) h =
       let s : from + (i - from) ≡ i = omega (arith, h.0) in
       (sym (first_some (end - from) from (i - from) (omega (arith, h.0, h.1)) (ap f s ∙ h.2) (λ k l. h.3 (from + k) (omega arith) (omega (arith, h.0))) ∙ ap Some s), h.1)
+
+-- what is found below an end
+pub found_below : {end most n : ℕ} {r : Option ℕ} → MatchOption r (Unit {0}) (λ i. i < end) → end ≤ most → r ≡ Some n → n < most
+found_below {end} h l e = let f : _ < end = subst (λ (o : Option ℕ). MatchOption o (Unit {0}) (λ i. i < end)) e h in omega (arith, l)
 
 -- From the back.
 
@@ -85,20 +90,20 @@ module _ (f : ℕ → Bool) (a : ℕ) where
   one_more : (n : ℕ) → filter f (range a (suc n)) ≡ filter f (range a n) ++ filter f (range (a + n) 1)
   one_more n =
       let s : suc n ≡ n + 1 = omega arith in
-      ap (filter f) (range_append a n 1 (suc n) s) ∙ filter_append f (range a n) (range (a + n) 1)
+      ap (filter f) (range_append a n 1 (suc n) s) ∙ filter-append f (range a n) (range (a + n) 1)
 
   pub top_passed : (n : ℕ) → f (a + n) ≡ false → filter f (range a (suc n)) ≡ filter f (range a n)
-  unfolding range filter
+  unfolding range
   top_passed n e = let none : filter f (range (a + n) 1) ≡ [] = rw e in one_more n ∙ ap (λ (l : List ℕ). filter f (range a n) ++ l) none ∙ append-nil (filter f (range a n))
 
   pub top_found : (n : ℕ) → f (a + n) ≡ true → on_last {A = ℕ} {B = Option ℕ} None Some (filter f (range a (suc n))) ≡ Some (a + n)
-  unfolding range filter
+  unfolding range
   top_found n e =
       let one : filter f (range (a + n) 1) ≡ (a + n) ∷ [] = rw e in
       ap (on_last None Some) (one_more n ∙ ap (λ (l : List ℕ). filter f (range a n) ++ l) one) ∙ last_append None Some (filter f (range a n)) (a + n)
 
   last_none : (n : ℕ) → ((k : ℕ) → k < n → f (a + (n - 1 - k)) ≡ false) → on_last {A = ℕ} {B = Option ℕ} None Some (filter f (range a n)) ≡ None
-  unfolding on_last filter range
+  unfolding on_last range
   last_none zero h = refl
   last_none (suc n) h =
       let z : a + n ≡ a + (suc n - 1 - 0) = omega arith in

@@ -15,7 +15,7 @@ use Rattle.portgraph.specs.Lookups.{num_ports}
 use Rattle.portgraph.specs.Model as model
 use Rattle.portgraph.specs.Model.{Model, Far, nowhere, to, Slots, gone, live, Good, Holds, Valid, slot_of, count_of, first_of, side_start, ports_of, total}
 use Rattle.port_tables.specs.Tables.{Within}
-use Rattle.portgraph.specs.Meaning.{drop_join, beyond, growth, next_block, resize_model, move_model}
+use Rattle.portgraph.specs.Meaning.{upd, drop_join, beyond, growth, next_block, resize_model, move_model}
 use Rattle.portgraph.specs.Resize.{refuse, same, inside, anew, set_by, set_num_ports, resize_inside, resize_anew}
 use Rattle.port_tables.specs.ResizeLinks.{round_up, same_counts, fits_inside}
 use Rattle.portgraph.specs.ResizeSteps.{round_up_reaches, round_up_positive, round_up_fits, fits_below}
@@ -24,7 +24,7 @@ use Rattle.portgraph.specs.SlotHolds.{block_room}
 use Rattle.portgraph.specs.InsideHolds.{inside_holds}
 use Rattle.portgraph.specs.AnewHolds.{anew_holds}
 use Rattle.portgraph.specs.GoodLaws.{good_resize, good_move}
-use Rattle.portgraph.specs.GoodSlots.{zero_is_not_one, block_of_one, upd_same, upd_other, joined_is_valid, slots_apart, same_place_lem}
+use Rattle.portgraph.specs.GoodSlots.{zero_is_not_one, block_of_one, upd_same, upd_other, joined_is_valid, slots_apart, same_place_lem, ports_end, node_below}
 use Rattle.portgraph.specs.Sums.{drop_nowhere, drop_kept, total_one}
 use Rattle.portgraph.specs.PlaceLaws.{meta_of_node, port_index_is}
 use Rattle.port_tables.specs.declared.direction.Direction.{Direction}
@@ -39,7 +39,7 @@ use Rattle.multiportgraph.specs.WellFormed.{inner#, copy_place, Fine, Marked, co
 use Rattle.multiportgraph.specs.Needs.{need_of}
 use Rattle.multiportgraph.specs.NeedStays.{alike_same, need_alike}
 use Rattle.multiportgraph.specs.Ends.{Hangs, other_side, side_cases, count_of_lem, copy_valid, end_side, ends_join_ends, outer_apart}
-use Rattle.multiportgraph.specs.HiddenStays.{copy_side_is, true_not_false}
+use Rattle.multiportgraph.specs.HiddenStays.{copy_side_is, same_copy, true_not_false, wire_again}
 use Rattle.multiportgraph.specs.SplitLaws.{HasEnd, KeptEnd, PreparedEnd}
 use Rattle.multiportgraph.specs.declared.multiportgraph.MultiPortGraph.{MultiPortGraph}
 use Rattle.port_tables.specs.Places.{Wire, flag}
@@ -130,24 +130,29 @@ module _ {g : PortGraph} {M : Model} (good : Good M) (holds : Holds g M) (n i o 
           stay c x (to y) j =
               j ∙ sym (drop_kept (beyond n i o) M.join x y j (below c x (good.join_valid x y j)) (below c y (joined_is_valid good x y j)))
 
+      changed : (a : NodeMeta) → M.node n ≡ live a → (first capacity : ℕ) (g' : PortGraph) (M' : Model) → M'.node ≡ upd M.node n (live (meta_of first i o capacity)) → M'.join ≡ drop_join (beyond n i o) M.join
+          → Good M' → Holds g' M' → SomeRecount g' M n i o
+      changed a here first capacity g' M' nodes joins good' holds' =
+          record {
+            model' = M';
+            old = a;
+            new = meta_of first i o capacity;
+            is = record {
+              here = here;
+              there = ap (λ (f : ℕ → Slots). f n) nodes ∙ upd_same M.node n _;
+              ins = refl;
+              outs = refl;
+              others = λ k h. ap (λ (f : ℕ → Slots). f k) nodes ∙ upd_other M.node n _ k h;
+              join = λ x. ap (λ (f : model.InnerPlace → Far). f x) joins;
+              good = good';
+              holds = holds';
+            };
+          }
+
       within : (a : NodeMeta) → M.node n ≡ live a → fits_inside a i o ≡ true → SomeRecount (resize_inside g n a i o) M n i o
       within a here q =
           let fit = fits_below a i o q in
-          record {
-            model' = resize_model M n a i o;
-            old = a;
-            new = meta_of a.first_port.0 i o a.capacity;
-            is = record {
-              here = here;
-              there = upd_same M.node n _;
-              ins = refl;
-              outs = refl;
-              others = λ k h. upd_other M.node n _ k h;
-              join = λ x. refl;
-              good = good_resize good n a here i o fit;
-              holds = inside_holds good holds n a here i o fit;
-            };
-          }
+          changed a here a.first_port.0 a.capacity _ (resize_model M n a i o) refl refl (good_resize good n a here i o fit) (inside_holds good holds n a here i o fit)
 
       away : i + o ≤ node_ports → (a : NodeMeta) → M.node n ≡ live a → block_room M (round_up (i + o)) ≡ true
           → SomeRecount (resize_anew g n a i o (next_block M (round_up (i + o))) (round_up (i + o))) M n i o
@@ -156,21 +161,8 @@ module _ {g : PortGraph} {M : Model} (good : Good M) (holds : Holds g M) (n i o 
           let some = round_up_positive (i + o) in
           let small = round_up_fits (i + o) h in
           let free = leb-true (M.port_len + growth (round_up (i + o)) (M.free_blocks (round_up (i + o)))) port_slots q in
-          record {
-            model' = move_model M n a i o (round_up (i + o));
-            old = a;
-            new = meta_of (next_block M (round_up (i + o))) i o (round_up (i + o));
-            is = record {
-              here = here;
-              there = upd_same M.node n _;
-              ins = refl;
-              outs = refl;
-              others = λ k h. upd_other M.node n _ k h;
-              join = λ x. refl;
-              good = good_move good n a here i o (round_up (i + o)) fit some small free;
-              holds = anew_holds good holds n a here i o (round_up (i + o)) fit some small free;
-            };
-          }
+          changed a here (next_block M (round_up (i + o))) (round_up (i + o)) _ (move_model M n a i o (round_up (i + o))) refl refl
+          (good_move good n a here i o (round_up (i + o)) fit some small free) (anew_holds good holds n a here i o (round_up (i + o)) fit some small free)
 
       counts : i + o ≤ node_ports → (a : NodeMeta) → M.node n ≡ live a → (p q r : Bool) → same_counts a i o ≡ p → fits_inside a i o ≡ q → block_room M (round_up (i + o)) ≡ r
           → Out (set_by g n i o (cond p same (cond q (inside a) (cond r (anew a (next_block M (round_up (i + o)))) (refuse (Err set_error.NoRoom))))))
@@ -223,6 +215,14 @@ place_among k s h = go (ltb s (k.first_port.0 + k.incoming)) refl
         let p = h.1 in
         record { side = Outgoing; pos = s - (k.first_port.0 + k.incoming); below = omega arith; slot = omega arith }
 
+-- a place of a node whose meta data are known
+module _ (N : Model) {n : ℕ} {k : NodeMeta} (here : N.node n ≡ live k) (x : model.InnerPlace) (at_node : x.node ≡ n) where
+  pub slot_at : slot_of N.node x ≡ slot_on_side (live k) x.side x.pos
+  slot_at = ap (λ (s : Slots). slot_on_side s x.side x.pos) (ap N.node at_node ∙ here)
+
+  pub count_at : count_of (N.node x.node) x.side ≡ ports_on k x.side
+  count_at = ap (λ (s : Slots). count_of s x.side) (ap N.node at_node ∙ here)
+
 -- a place whose slot is marked, before and after
 pub record WasMarked (m : MultiPortGraph) (M M' : Model) (s : ℕ) : Type 0 where
   pub place : model.InnerPlace
@@ -247,22 +247,6 @@ module _ {m : MultiPortGraph} {M : Model} (f : Fine m M) {g' : PortGraph} {M' : 
   pub marks_long_lem : length (recounted m n g').multiport ≡ port_slots
   marks_long_lem = ap length marks_moved ∙ length_lay_marks m.multiport a b ∙ f.marks_long
 
-  old_fits : a.first_port.0 + (a.incoming + a.outgoing) ≤ length m.multiport
-  old_fits =
-      let p = f.good.ports_in_block n a r.here in
-      let q = f.good.block_ends n a r.here in
-      let t = f.good.ports_fit in
-      let l = f.marks_long in
-      omega arith
-
-  new_fits : b.first_port.0 + (b.incoming + b.outgoing) ≤ length m.multiport
-  new_fits =
-      let p = r.good.ports_in_block n b r.there in
-      let q = r.good.block_ends n b r.there in
-      let t = r.good.ports_fit in
-      let l = f.marks_long in
-      omega arith
-
   mark_is : (s : ℕ) → is_split (recounted m n g') s ≡ get_or (lay_marks m.multiport a b) s false
   unfolding is_split
   mark_is s = ap (λ (l : List Bool). get_or l s false) marks_moved
@@ -273,16 +257,16 @@ module _ {m : MultiPortGraph} {M : Model} (f : Fine m M) {g' : PortGraph} {M' : 
   kept_here Incoming j h k =
       let p : b.first_port.0 + (0 + j) ≡ b.first_port.0 + j = omega arith in
       let q : a.first_port.0 + (0 + j) ≡ a.first_port.0 + j = omega arith in
-      mark_is _ ∙ (rw (p, q) (lay_kept_in m.multiport a b j (omega (arith, new_fits)) (omega arith)))
+      mark_is _ ∙ (rw (p, q) (lay_kept_in m.multiport a b j (omega (arith, ports_end r.good n b r.there, f.marks_long)) (omega arith)))
   kept_here Outgoing j h k =
       let p : b.first_port.0 + (b.incoming + j) ≡ b.first_port.0 + b.incoming + j = omega arith in
       let q : a.first_port.0 + (a.incoming + j) ≡ a.first_port.0 + a.incoming + j = omega arith in
-      mark_is _ ∙ (rw (p, q) (lay_kept_out m.multiport a b j (omega (arith, new_fits)) (omega arith)))
+      mark_is _ ∙ (rw (p, q) (lay_kept_out m.multiport a b j (omega (arith, ports_end r.good n b r.there, f.marks_long)) (omega arith)))
 
   -- a new port of the node itself
   new_here : (d : Direction) (j : ℕ) → ports_on a d ≤ j → j < ports_on b d → is_split (recounted m n g') (slot_on_side (live b) d j) ≡ false
-  new_here Incoming j h k = mark_is _ ∙ lay_new m.multiport a b _ (omega (arith, new_fits)) (omega arith) (omega arith) (λ p q. omega arith) (λ p q. omega arith)
-  new_here Outgoing j h k = mark_is _ ∙ lay_new m.multiport a b _ (omega (arith, new_fits)) (omega arith) (omega arith) (λ p q. omega arith) (λ p q. omega arith)
+  new_here Incoming j h k = mark_is _ ∙ lay_new m.multiport a b _ (omega (arith, ports_end r.good n b r.there, f.marks_long)) (omega arith) (omega arith) (λ p q. omega arith) (λ p q. omega arith)
+  new_here Outgoing j h k = mark_is _ ∙ lay_new m.multiport a b _ (omega (arith, ports_end r.good n b r.there, f.marks_long)) (omega arith) (omega arith) (λ p q. omega arith) (λ p q. omega arith)
 
   -- a slot of neither block's ports
   mark_else : (s : ℕ) → (a.first_port.0 ≤ s → s < a.first_port.0 + (a.incoming + a.outgoing) → ⊥)
@@ -292,7 +276,7 @@ module _ {m : MultiPortGraph} {M : Model} (f : Fine m M) {g' : PortGraph} {M' : 
 
   mark_old : (s : ℕ) → Within a.first_port.0 (a.incoming + a.outgoing) s
       → (b.first_port.0 ≤ s → s < b.first_port.0 + (b.incoming + b.outgoing) → ⊥) → is_split (recounted m n g') s ≡ false
-  mark_old s h k = mark_is s ∙ lay_old m.multiport a b s k (omega (arith, old_fits)) h.0 h.1
+  mark_old s h k = mark_is s ∙ lay_old m.multiport a b s k (omega (arith, ports_end f.good n a r.here, f.marks_long)) h.0 h.1
 
   -- places of other nodes have their slots
   pub other_slot : (x : model.InnerPlace) → (x.node ≡ n → ⊥) → slot_of M'.node x ≡ slot_of M.node x
@@ -300,18 +284,6 @@ module _ {m : MultiPortGraph} {M : Model} (f : Fine m M) {g' : PortGraph} {M' : 
 
   pub other_count : (k : ℕ) (d : Direction) → (k ≡ n → ⊥) → count_of (M'.node k) d ≡ count_of (M.node k) d
   other_count k d h = ap (λ (s : Slots). count_of s d) (r.others k h)
-
-  pub slot_before : (x : model.InnerPlace) → x.node ≡ n → slot_of M.node x ≡ slot_on_side (live a) x.side x.pos
-  slot_before x h = ap (λ (s : Slots). slot_on_side s x.side x.pos) (ap M.node h ∙ r.here)
-
-  pub slot_after : (x : model.InnerPlace) → x.node ≡ n → slot_of M'.node x ≡ slot_on_side (live b) x.side x.pos
-  slot_after x h = ap (λ (s : Slots). slot_on_side s x.side x.pos) (ap M'.node h ∙ r.there)
-
-  pub count_before : (x : model.InnerPlace) → x.node ≡ n → count_of (M.node x.node) x.side ≡ ports_on a x.side
-  count_before x h = ap (λ (s : Slots). count_of s x.side) (ap M.node h ∙ r.here)
-
-  pub count_after : (x : model.InnerPlace) → x.node ≡ n → count_of (M'.node x.node) x.side ≡ ports_on b x.side
-  count_after x h = ap (λ (s : Slots). count_of s x.side) (ap M'.node h ∙ r.there)
 
   -- a port's slot lies in its node's block, so not among the ports of another node
   apart : {N : Model} → Good N → (k : NodeMeta) → N.node n ≡ live k → (x : model.InnerPlace) → Valid N.node x → (x.node ≡ n → ⊥)
@@ -321,8 +293,8 @@ module _ {m : MultiPortGraph} {M : Model} (f : Fine m M) {g' : PortGraph} {M' : 
       go : (s : Slots) → N.node x.node ≡ s → ⊥
       go gone d = let z : count_of (N.node x.node) x.side ≡ 0 = ap (λ (s : Slots). count_of s x.side) d in omega arith
       go (live l) d =
-          let c : count_of (N.node x.node) x.side ≡ ports_on l x.side = ap (λ (s : Slots). count_of s x.side) d in
-          let t : slot_of N.node x ≡ slot_on_side (live l) x.side x.pos = ap (λ (s : Slots). slot_on_side s x.side x.pos) d in
+          let c = count_at N d x refl in
+          let t = slot_at N d x refl in
           let w = slot_among l x.side x.pos (omega arith) in
           let w0 = w.0 in
           let w1 = w.1 in
@@ -336,9 +308,9 @@ module _ {m : MultiPortGraph} {M : Model} (f : Fine m M) {g' : PortGraph} {M' : 
     where
       itself : x.node ≡ n → is_split (recounted m n g') (slot_of M'.node x) ≡ is_split m (slot_of M.node x)
       itself h =
-          let p = count_before x h in
-          let q = count_after x h in
-          ap (is_split (recounted m n g')) (slot_after x h) ∙ kept_here x.side x.pos (omega arith) (omega arith) ∙ sym (ap (is_split m) (slot_before x h))
+          let p = count_at M r.here x h in
+          let q = count_at M' r.there x h in
+          ap (is_split (recounted m n g')) (slot_at M' r.there x h) ∙ kept_here x.side x.pos (omega arith) (omega arith) ∙ sym (ap (is_split m) (slot_at M r.here x h))
 
       other : (x.node ≡ n → ⊥) → is_split (recounted m n g') (slot_of M'.node x) ≡ is_split m (slot_of M.node x)
       other h =
@@ -365,14 +337,14 @@ module _ {m : MultiPortGraph} {M : Model} (f : Fine m M) {g' : PortGraph} {M' : 
                   let x = inner# n t.side t.pos in
                   let l = ltb-true t.pos (ports_on a t.side) q in
                   let u = t.below in
-                  let p = count_before x refl in
-                  let k = count_after x refl in
+                  let p = count_at M r.here x refl in
+                  let k = count_at M' r.there x refl in
                   record {
                     place = x;
                     was = omega arith;
                     is = omega arith;
-                    slot = slot_after x refl ∙ t.slot;
-                    marked = ap (is_split m) (slot_before x refl) ∙ sym (kept_here t.side t.pos l u) ∙ ap (is_split (recounted m n g')) t.slot ∙ e;
+                    slot = slot_at M' r.there x refl ∙ t.slot;
+                    marked = ap (is_split m) (slot_at M r.here x refl) ∙ sym (kept_here t.side t.pos l u) ∙ ap (is_split (recounted m n g')) t.slot ∙ e;
                   }
               kept false q =
                   absurd (clash (sym (ap (is_split (recounted m n g')) t.slot) ∙ new_here t.side t.pos (ltb-false t.pos (ports_on a t.side) q) t.below))
@@ -386,9 +358,9 @@ module _ {m : MultiPortGraph} {M : Model} (f : Fine m M) {g' : PortGraph} {M' : 
               let t = marked_place f s d in
               let x = t.0 in
               let other : (x.node ≡ n → ⊥) = λ q.
-              let p = count_before x q in
+              let p = count_at M r.here x q in
               let v = t.1 in
-              let z = slot_before x q in
+              let z = slot_at M r.here x q in
               let y = t.2 in
               let w = slot_among a x.side x.pos (omega arith) in
               let w0 = w.0 in
@@ -424,9 +396,6 @@ module _ {m : MultiPortGraph} {M : Model} {m' : MultiPortGraph} {M' : Model} (f 
         subport = λ h s. e.subport (t.hid y.node ∙ h) (s ∙ sym (t.sides y.node h));
       }
 
-  pub copy_place_same : (k : ℕ) → is_hidden m k ≡ true → copy_place m' k ≡ copy_place m k
-  copy_place_same k h = ap (λ (d : Direction). inner# k d 0) (t.sides k h)
-
   pub outer_same : (y : model.InnerPlace) → outer m' M' y ≡ outer m M y
   unfolding outer
   outer_same y = go (is_hidden m y.node) refl
@@ -434,40 +403,19 @@ module _ {m : MultiPortGraph} {M : Model} {m' : MultiPortGraph} {M' : Model} (f 
       go : (b : Bool) → is_hidden m y.node ≡ b → outer m' M' y ≡ outer m M y
       go true h =
           let q = t.hid y.node ∙ h in
-          let p : M'.join (copy_place m' y.node) ≡ M.join (copy_place m y.node) = ap M'.join (copy_place_same y.node h) ∙ t.joins _ in
+          let p : M'.join (copy_place m' y.node) ≡ M.join (copy_place m y.node) = ap M'.join (same_copy (t.sides y.node h)) ∙ t.joins _ in
           rw (q, h, p)
       go false h = let q = t.hid y.node ∙ h in rw (q, h)
 
   pub same_wires : SameWires m M m' M'
   same_wires =
       record {
-        kept = λ w i q.
-            record {
-              x = i.x;
-              y = i.y;
-              joined = t.joins i.x ∙ i.joined;
-              outgoing = i.outgoing;
-              end = end_kept i.x (t.linked i.x i.y i.joined) i.end;
-              is = i.is ∙ sym (wires_at i.x i.y);
-            };
+        kept = λ w i q. wire_again i (t.joins i.x ∙ i.joined) (end_kept i.x (t.linked i.x i.y i.joined) i.end) (outer_same i.x) (outer_same i.y);
         came = λ w e. absurd e;
         only = λ w i.
             let j = sym (t.joins i.x) ∙ i.joined in
-            inl (
-              record {
-                x = i.x;
-                y = i.y;
-                joined = j;
-                outgoing = i.outgoing;
-                end = end_was i.x (f.good.join_valid i.x i.y j) i.end;
-                is = i.is ∙ wires_at i.x i.y;
-              },
-              refl,
-            );
+            inl (wire_again i j (end_was i.x (f.good.join_valid i.x i.y j) i.end) (sym (outer_same i.x)) (sym (outer_same i.y)), refl);
       }
-    where
-      wires_at : (x y : model.InnerPlace) → ◌≡◌ {A = Wire} (record { out = outer m' M' x; into = outer m' M' y }) (record { out = outer m M x; into = outer m M y })
-      wires_at x y = λ q. record { out = outer_same x q; into = outer_same y q }
 
 -- A hidden node with other counts: two subports or more are left, and no link goes with the others.
 
@@ -510,14 +458,14 @@ module _ {m : MultiPortGraph} {M : Model} (f : Fine m M) (x : model.InnerPlace) 
       copy : y.side ≡ reversed x.side → y.pos < ports_on b y.side
       copy s =
           let v = f.good.join_valid y z j in
-          let p = count_before f r y e in
+          let p = count_at M r.here y e in
           let q : ports_on b y.side ≡ ports_on a y.side = ap (ports_on b) s ∙ (same ∙ ap (ports_on a) (sym s)) in
           omega arith
 
   pub linked_valid : (y z : model.InnerPlace) → M.join y ≡ to z → Valid M'.node y
   linked_valid y z j =
       ⊎_elim
-      (λ e. let p = count_after f r y e in let l = linked_below y z j e in omega arith)
+      (λ e. let p = count_at M' r.there y e in let l = linked_below y z j e in omega arith)
       (λ e. let p = other_count f r y.node y.side e in let v = f.good.join_valid y z j in omega arith)
       (cases_eq y.node h.copy)
 
@@ -594,8 +542,7 @@ module _ {m : MultiPortGraph} {M : Model} (f : Fine m M) (x : model.InnerPlace) 
 
   recount_subs : subs ≡ total node_slots (subports_of_slot (counted m h.copy g' subs) M')
   recount_subs =
-      let used = f.good.node_used h.copy a r.here in
-      let fit = f.good.nodes_fit in
+      let used = node_below f.good h.copy a r.here in
       let one = total_one node_slots h.copy (subports_of_slot m M) (subports_of_slot (counted m h.copy g' subs) M') (omega arith) (λ k l ne. other_subs k ne) in
       let p = subs_are h.copy (live a) h.is_copy r.here in
       let q = new_subs_are h.copy (live b) h.is_copy r.there in
@@ -615,10 +562,10 @@ module _ {m : MultiPortGraph} {M : Model} (f : Fine m M) (x : model.InnerPlace) 
           by : Marked m M (slot_of M.node w.place) → Marked (counted m h.copy g' subs) M' s
           by (copy_port c q t) =
               let z : copy_place m c ≡ w.place = slots_apart f.good (copy_place m c) w.place (copy_valid f c q) w.was t in
-              copy_port c (recount_hidden c ∙ q) (ap (slot_of M'.node) (copy_place_same f recount_ends c q ∙ z) ∙ w.slot)
+              copy_port c (recount_hidden c ∙ q) (ap (slot_of M'.node) (same_copy (recount_ends.sides c q) ∙ z) ∙ w.slot)
           by (main_port_lem c y q j t) =
               let z : y ≡ w.place = slots_apart f.good y w.place (joined_is_valid f.good (copy_place m c) y j) w.was t in
-              main_port_lem c y (recount_hidden c ∙ q) (ap M'.join (copy_place_same f recount_ends c q) ∙ recount_joins _ ∙ j) (ap (slot_of M'.node) z ∙ w.slot)
+              main_port_lem c y (recount_hidden c ∙ q) (ap M'.join (same_copy (recount_ends.sides c q)) ∙ recount_joins _ ∙ j) (ap (slot_of M'.node) z ∙ w.slot)
 
   pub recount_fine : Fine (counted m h.copy g' subs) M'
   recount_fine =
@@ -637,17 +584,17 @@ module _ {m : MultiPortGraph} {M : Model} (f : Fine m M) (x : model.InnerPlace) 
               single = rw (recount_sides c e) t.single;
               several = rw (recount_sides c e) t.several;
               main = k.main;
-              joined = ap M'.join (copy_place_same f recount_ends c e) ∙ recount_joins _ ∙ k.joined;
+              joined = ap M'.join (same_copy (recount_ends.sides c e)) ∙ recount_joins _ ∙ k.joined;
               main_seen = recount_hidden k.main.node ∙ k.main_seen;
             };
         copy_marked = λ c q.
             let e = sym (recount_hidden c) ∙ q in
             let k = f.copy c e in
-            ap (λ (y : model.InnerPlace). is_split (counted m h.copy g' subs) (slot_of M'.node y)) (copy_place_same f recount_ends c e)
+            ap (λ (y : model.InnerPlace). is_split (counted m h.copy g' subs) (slot_of M'.node y)) (same_copy (recount_ends.sides c e))
             ∙ recount_split (copy_place m c) (copy_valid f c e) (linked_valid (copy_place m c) k.main k.joined) ∙ f.copy_marked c e;
         main_marked = λ c y q j.
             let e = sym (recount_hidden c) ∙ q in
-            let d : M.join (copy_place m c) ≡ to y = sym (ap M'.join (copy_place_same f recount_ends c e) ∙ recount_joins _) ∙ j in
+            let d : M.join (copy_place m c) ≡ to y = sym (ap M'.join (same_copy (recount_ends.sides c e)) ∙ recount_joins _) ∙ j in
             recount_split y (joined_is_valid f.good (copy_place m c) y d) (linked_valid y (copy_place m c) (f.good.join_back (copy_place m c) y d)) ∙ f.main_marked c y e d;
         only_marked = recount_only;
         copies = recount_copies;
@@ -682,7 +629,7 @@ module _ {m : MultiPortGraph} {M : Model} (f : Fine m M) (x : model.InnerPlace) 
 
   pub valid_kept : (y : model.InnerPlace) → Valid M.node y → Valid M'.node y
   valid_kept y v = ⊎_elim
-      (λ e. let p = count_before f r y e in let q = count_after f r y e in let l = side_grows y.side in omega arith)
+      (λ e. let p = count_at M r.here y e in let q = count_at M' r.there y e in let l = side_grows y.side in omega arith)
       (λ e. let p = other_count f r y.node y.side e in omega arith)
       (cases_eq y.node h.copy)
 
@@ -697,7 +644,7 @@ module _ {m : MultiPortGraph} {M : Model} (f : Fine m M) (x : model.InnerPlace) 
       go nowhere e = e
       go (to y) e =
           let v = f.good.join_valid (inner# h.copy x.side j) y e in
-          let p = count_before f r (inner# h.copy x.side j) refl in
+          let p = count_at M r.here (inner# h.copy x.side j) refl in
           absurd (omega arith)
 
   one_more : (subs : ℕ) → subs ≡ m.subport_count → subs + 1 + ports_on a x.side ≡ m.subport_count + ports_on b x.side
@@ -736,7 +683,7 @@ module _ {m : MultiPortGraph} {M : Model} (f : Fine m M) (x : model.InnerPlace) 
   fresh = inner# h.copy x.side (ports_on a x.side)
 
   pub fresh_valid : Valid M'.node fresh
-  fresh_valid = let p = count_after f r fresh refl in omega arith
+  fresh_valid = let p = count_at M' r.there fresh refl in omega arith
 
   fresh_end : IsEnd (grown m h.copy g') M' fresh
   fresh_end =
@@ -751,7 +698,7 @@ module _ {m : MultiPortGraph} {M : Model} (f : Fine m M) (x : model.InnerPlace) 
       side_clash d Outgoing p q = zero_is_not_one (cc)
 
   fresh_was_free : (y : model.InnerPlace) → M.join fresh ≡ to y → ⊥
-  fresh_was_free y j = let v = f.good.join_valid fresh y j in let p = count_before f r fresh refl in omega arith
+  fresh_was_free y j = let v = f.good.join_valid fresh y j in let p = count_at M r.here fresh refl in omega arith
 
   fresh_free : M'.join fresh ≡ nowhere
   fresh_free = joins_same fresh ∙ go (M.join fresh) refl
@@ -818,7 +765,7 @@ module _ {m : MultiPortGraph} {M : Model} (f : Fine m M) (x : model.InnerPlace) 
       (λ k.
       record {
         hid = hidden_same k.copy ∙ k.is_copy;
-        from = ap M'.join (copy_place_same f ends_same k.copy k.is_copy) ∙ (joins_same _ ∙ k.from);
+        from = ap M'.join (same_copy (ends_same.sides k.copy k.is_copy)) ∙ (joins_same _ ∙ k.from);
         node = r.others k.copy (λ q. apart (let a = ap (λ (c : ℕ). M.join (copy_place m c)) q in let b = k.from in let d = h.from in cc));
         links = λ i l. alike_same _ _ (joins_same (inner# k.copy v.side i));
       })

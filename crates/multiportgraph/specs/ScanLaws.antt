@@ -7,12 +7,13 @@ use Rattle.std.proofs.Math.Bool.{true, false, cond}
 use mathlib.Core.List.{List, [], ◌∷◌, ◌++◌, append_assoc, append-nil, flat_map, map}
 use Rattle.std.proofs.lemmas.Bool.{lt-leb, eqb-false}
 use Rattle.port_tables.specs.Limits.{port_slots}
-use Rattle.port_tables.specs.Lists.{range, filter, Member}
+use Rattle.port_tables.specs.Lists.{range, Member}
+use Rattle.std.specs.List.{filter}
 use Rattle.port_tables.specs.Entries.{ports_on, port#, ports_from, ports_to}
 use Rattle.portgraph.specs.Lookups.{meta_at, contains_node, count_in, start_of, port_in, is_some}
 use Rattle.portgraph.specs.Model.{live, Slots, slot_of, first_of, side_start, count_of}
 use Rattle.portgraph.specs.PlaceLaws.{node_of_meta}
-use Rattle.portgraph.specs.GoodSlots.{zero_is_not_one}
+use Rattle.portgraph.specs.GoodSlots.{zero_is_not_one, ports_end}
 use Rattle.port_tables.specs.declared.direction.Direction.{Direction}
 use Rattle.port_tables.specs.declared.direction.Direction.TheVariants.{Incoming, Outgoing}
 use Rattle.port_tables.specs.declared.sides.Sides.{Sides}
@@ -21,16 +22,17 @@ use Rattle.port_tables.specs.declared.node_entry.NodeMeta.{NodeMeta}
 use Rattle.multiportgraph.specs.Reading.{port_number, port_of, is_hidden, is_split, seen, subports, end_at, link_of_end}
 use Rattle.multi_tables.specs.Forms.{Port, dead, hidden, visible, subport#, wire_to}
 use Rattle.multiportgraph.specs.Wires.{is_block, ports_of_side, subports_of_port, subports_of_side, wire_of, side_links, is_beyond}
-use Rattle.multiportgraph.specs.Walks.{between, by_sides, ports_of_node, subports_of, subport_beyond, port_links_seen, port_links, link_beyond}
+use Rattle.multiportgraph.specs.Walks.{between, by_sides, ports_of_node, subports_of, port_links_seen, port_links, link_beyond}
 use Rattle.multiportgraph.specs.WellFormed.{inner#, MultiWf}
 use Rattle.multiportgraph.specs.Ends.{map_range, seen_block}
-use Rattle.port_tables.specs.Listing.{member_map, member_flat_map, member_range, filter_all, filter_none, filter_append, filter_same, filter_flat_map, flat_map_beyond, range_rises, range_member}
+use Rattle.port_tables.specs.Listing.{member_map, member_flat_map, member_range, filter_all, filter_none, filter_same, filter_flat_map, flat_map_beyond, range_rises, range_member}
 use Rattle.multiportgraph.specs.declared.multiportgraph.MultiPortGraph.{MultiPortGraph}
 use Rattle.multi_tables.specs.declared.answers.SubportIndex.{SubportIndex}
 use Rattle.multi_tables.specs.declared.answers.SubportLink.{SubportLink}
 use Rattle.multi_tables.specs.Scans.{end_before}
 use Rattle.multi_tables.specs.declared.answers.Refusal.{Refusal}
 use Rattle.multi_tables.specs.declared.answers.PortPlace.{PortPlace}
+use Rattle.std.proofs.lemmas.List.Elements.{filter-append}
 
 -- the subports of a block's port, of whichever side; none of any other number
 abbrev pub subports_seen : MultiPortGraph → ℕ → Port → List SubportIndex
@@ -70,11 +72,6 @@ range_append i (suc a) b (suc c) e =
     ap (λ (l : List ℕ). i ∷ l) (r ∙ ap (λ (n : ℕ). range (suc i) a ++ range n b) q)
 
 module _ {A B : Type 0} where
-  pub flat_map_append : (f : A → List B) (a b : List A) → flat_map f (a ++ b) ≡ flat_map f a ++ flat_map f b
-  unfolding flat_map
-  flat_map_append f [] b = refl
-  flat_map_append f (x ∷ a) b = ap (λ (r : List B). f x ++ r) (flat_map_append f a b) ∙ sym (append_assoc (f x) (flat_map f a) (flat_map f b))
-
   pub flat_map_same : (f g : A → List B) (l : List A) → ((x : A) → Member x l → f x ≡ g x) → flat_map f l ≡ flat_map g l
   unfolding flat_map
   flat_map_same f g [] h = refl
@@ -82,6 +79,11 @@ module _ {A B : Type 0} where
       let a = h x (inl refl) in
       let b = flat_map_same f g l (λ y i. h y (inr i)) in
       λ i. a i ++ b i
+
+  pub flat_map_append : (f : A → List B) (a b : List A) → flat_map f (a ++ b) ≡ flat_map f a ++ flat_map f b
+  unfolding flat_map
+  flat_map_append f [] b = refl
+  flat_map_append f (x ∷ a) b = ap (λ (r : List B). f x ++ r) (flat_map_append f a b) ∙ sym (append_assoc (f x) (flat_map f a) (flat_map f b))
 
   pub flat_map_map : {C : Type 0} (f : B → List C) (h : A → B) (l : List A) → flat_map f (map h l) ≡ flat_map (λ a. f (h a)) l
   unfolding flat_map
@@ -99,7 +101,6 @@ module _ {A B : Type 0} where
 
 -- the order of two tests does not matter
 pub filter_swap : {A : Type 0} (t u : A → Bool) (l : List A) → filter t (filter u l) ≡ filter u (filter t l)
-unfolding filter
 filter_swap t u [] = refl
 filter_swap {A} t u (x ∷ l) = go (t x) refl (u x) refl (filter_swap t u l)
   where
@@ -132,8 +133,8 @@ range_window t lo hi a c l h inside before after = go (leb lo hi) refl
         let all : filter t (range lo (hi - lo)) ≡ range lo (hi - lo) = filter_all t (range lo (hi - lo)) (λ n i. let r = member_range n lo (hi - lo) i in inside n (omega arith) (omega arith)) in
         let rest : filter t (range hi (a + c - hi)) ≡ [] = filter_none t (range hi (a + c - hi)) (λ n i. let r = member_range n hi (a + c - hi) i in after n (omega arith) (omega arith)) in
         ap (filter t) cut
-        ∙ (filter_append t (range a (lo - a)) (range lo (hi - lo) ++ range hi (a + c - hi))
-        ∙ ((λ i. none i ++ filter_append t (range lo (hi - lo)) (range hi (a + c - hi)) i)
+        ∙ (filter-append t (range a (lo - a)) (range lo (hi - lo) ++ range hi (a + c - hi))
+        ∙ ((λ i. none i ++ filter-append t (range lo (hi - lo)) (range hi (a + c - hi)) i)
         ∙ ((λ i. all i ++ rest i) ∙ append-nil (range lo (hi - lo)))))
     go false e =
         let k = leb-false lo hi e in
@@ -191,22 +192,12 @@ range_between front back c =
     go x false e = refl
 
 module _ {A B : Type 0} where
-  pub filter_map : (h : A → B) (t : B → Bool) (l : List A) → filter t (map h l) ≡ map h (filter (λ a. t (h a)) l)
-  unfolding filter
-  filter_map h t [] = refl
-  filter_map h t (x ∷ l) = go (t (h x)) (filter_map h t l)
-    where
-      go : (b : Bool) → filter t (map h l) ≡ map h (filter (λ a. t (h a)) l) →
-          cond b (h x ∷ filter t (map h l)) (filter t (map h l)) ≡ map h (cond b (x ∷ filter (λ a. t (h a)) l) (filter (λ a. t (h a)) l))
-      go true e = ap (λ (r : List B). h x ∷ r) e
-      go false e = e
-
   -- a test that has one answer on each of the gathered lists
   pub flat_map_under : (f : A → List B) (t : B → Bool) (u : A → Bool) → ((a : A) (b : B) → Member b (f a) → t b ≡ u a) → (l : List A) →
       filter t (flat_map f l) ≡ flat_map f (filter u l)
-  unfolding filter flat_map
+  unfolding flat_map
   flat_map_under f t u h [] = refl
-  flat_map_under f t u h (x ∷ l) = filter_append t (f x) (flat_map f l) ∙ go (u x) refl (flat_map_under f t u h l)
+  flat_map_under f t u h (x ∷ l) = filter-append t (f x) (flat_map f l) ∙ go (u x) refl (flat_map_under f t u h l)
     where
       go : (b : Bool) → u x ≡ b → filter t (flat_map f l) ≡ flat_map f (filter u l) → filter t (f x) ++ filter t (flat_map f l) ≡ flat_map f (cond b (x ∷ filter u l) (filter u l))
       go true e r =
@@ -271,6 +262,42 @@ module _ {A : Type 0} (port offset : A → ℕ) where
         (λ k i b x j. let e = stands k x j in past_later (suc p) o x (omega arith))
         ∙ ap (λ (r : List ℕ). filter (λ x. ltb o (offset x)) (f p) ++ flat_map f r) (later_slots p a c (omega arith)))
 
+    -- a row of slots, scanned from its first slot on or from what is held on, is what is beyond it
+    module _ (items : ℕ → ℕ → List A) (all : (p : ℕ) → items p 0 ≡ f p) (past : (p o : ℕ) → items p (suc o) ≡ filter (λ x. ltb o (offset x)) (f p))
+        (row : ℕ → ℕ → ℕ → List A) (done : (p o : ℕ) → row p o 0 ≡ []) (turn : (p o c : ℕ) → row p o (suc c) ≡ items p o ++ row (suc p) 0 c) where
+      row_whole : (c p : ℕ) → row p 0 c ≡ flat_map f (range p c)
+      unfolding flat_map range
+      row_whole zero p = done p 0
+      row_whole (suc c) p =
+          let a = all p in
+          let r = row_whole c (suc p) in
+          turn p 0 c ∙ (λ i. a i ++ r i)
+
+      row_later : (a c p o : ℕ) (b : Bool) → ltb p (a + c) ≡ b → a ≤ p → row p (suc o) (a + c - p) ≡ filter (is_past port offset (suc p) o) (flat_map f (range a c))
+      row_later a c p o true e l =
+          let h = ltb-true p (a + c) e in
+          let more : a + c - p ≡ suc (a + c - suc p) = omega arith in
+          let b = past p o in
+          let r = row_whole (a + c - suc p) (suc p) in
+          ap (row p (suc o)) more ∙ turn p (suc o) (a + c - suc p) ∙ (λ i. b i ++ r i) ∙ sym (past_rest p o a c l h)
+      row_later a c p o false e l =
+          let h = ltb-false p (a + c) e in
+          let none : a + c - p ≡ 0 = omega arith in
+          ap (row p (suc o)) none ∙ done p (suc o) ∙ sym (past_none p o a c h)
+
+      pub row_past : (a b held o : ℕ) → a ≤ b → cond (leb held a) (row a 0 (b - a)) (row (held - 1) (suc o) (b - (held - 1))) ≡ filter (is_past port offset held o) (flat_map f (range a (b - a)))
+      row_past a b held o l = go (leb held a) refl
+        where
+          go : (c : Bool) → leb held a ≡ c → cond c (row a 0 (b - a)) (row (held - 1) (suc o) (b - (held - 1))) ≡ filter (is_past port offset held o) (flat_map f (range a (b - a)))
+          go true e = row_whole (b - a) a ∙ sym (past_all held o a (b - a) (leb-true held a e))
+          go false e =
+              let h = leb-false held a e in
+              let end : b ≡ a + (b - a) = omega arith in
+              let one : suc (held - 1) ≡ held = omega arith in
+              ap (λ (x : ℕ). row (held - 1) (suc o) (x - (held - 1))) end
+              ∙ row_later a (b - a) (held - 1) o (ltb (held - 1) (a + (b - a))) refl (omega arith)
+              ∙ ap (λ (x : ℕ). filter (is_past port offset x o) (flat_map f (range a (b - a)))) one
+
 -- The items of a port stand at it.
 
 pub wire_stands : (m : MultiPortGraph) (d : Direction) (s : SubportIndex) (w : SubportLink) → Member w (wire_of m d s) → w.from ≡ s
@@ -311,64 +338,6 @@ link_at_port m p w = go (seen m p)
     go (visible n d) i =
         let g = member_flat_map (wire_of m d) w (subports_of_port m d p) i in
         ap (λ (t : SubportIndex). t.port.0) (wire_stands m d g.0 w g.2) ∙ subport_stands m d p g.0 g.1
-
-abbrev link_port : SubportLink → ℕ
-link_port w = w.from.port.0
-
-abbrev link_offset : SubportLink → ℕ
-link_offset w = w.from.subport_offset
-
-abbrev subport_port : SubportIndex → ℕ
-subport_port s = s.port.0
-
-abbrev subport_offset : SubportIndex → ℕ
-subport_offset s = s.subport_offset
-
--- What is beyond a port and offset among the links of consecutive slots, and among their subports.
-
-module _ (m : MultiPortGraph) where
-  pub links_all : (held o a c : ℕ) → held ≤ a → filter (link_beyond held o) (links_from_to m a c) ≡ links_from_to m a c
-  unfolding links_from_to is_beyond
-  links_all held o a c l = past_all link_port link_offset (port_links m) (link_at_port m) held o a c l
-
-  pub links_none : (p o a c : ℕ) → a + c ≤ p → filter (link_beyond (suc p) o) (links_from_to m a c) ≡ []
-  unfolding links_from_to is_beyond
-  links_none p o a c l = past_none link_port link_offset (port_links m) (link_at_port m) p o a c l
-
-  pub links_rest : (p o a c : ℕ) → a ≤ p → p < a + c →
-      filter (link_beyond (suc p) o) (links_from_to m a c) ≡ filter (link_past o) (port_links m p) ++ links_from_to m (suc p) (a + c - suc p)
-  unfolding links_from_to is_beyond
-  links_rest p o a c l h = past_rest link_port link_offset (port_links m) (link_at_port m) p o a c l h
-
-  pub subports_all : (held o a c : ℕ) → held ≤ a → filter (subport_beyond held o) (subports_from_to m a c) ≡ subports_from_to m a c
-  unfolding subports_from_to subport_beyond
-  subports_all held o a c l = past_all subport_port subport_offset (subports_at m) (subport_at_port m) held o a c l
-
-  pub subports_none : (p o a c : ℕ) → a + c ≤ p → filter (subport_beyond (suc p) o) (subports_from_to m a c) ≡ []
-  unfolding subports_from_to subport_beyond
-  subports_none p o a c l = past_none subport_port subport_offset (subports_at m) (subport_at_port m) p o a c l
-
-  pub subports_rest : (p o a c : ℕ) → a ≤ p → p < a + c →
-      filter (subport_beyond (suc p) o) (subports_from_to m a c) ≡ filter (subport_past o) (subports_at m p) ++ subports_from_to m (suc p) (a + c - suc p)
-  unfolding subports_from_to subport_beyond
-  subports_rest p o a c l h = past_rest subport_port subport_offset (subports_at m) (subport_at_port m) p o a c l h
-
-  -- one slot of the scan
-  pub links_on : (p c : ℕ) → links_from_to m p (suc c) ≡ port_links m p ++ links_from_to m (suc p) c
-  unfolding links_from_to flat_map range
-  links_on p c = refl
-
-  pub links_end : (p : ℕ) → links_from_to m p 0 ≡ []
-  unfolding links_from_to flat_map range
-  links_end p = refl
-
-  pub subports_on : (p c : ℕ) → subports_from_to m p (suc c) ≡ subports_at m p ++ subports_from_to m (suc p) c
-  unfolding subports_from_to flat_map range
-  subports_on p c = refl
-
-  pub subports_end : (p : ℕ) → subports_from_to m p 0 ≡ []
-  unfolding subports_from_to flat_map range
-  subports_end p = refl
 
 -- the list of all wires tests a port itself, the walks what they hold
 pub beyond_held : (p o : ℕ) (w : SubportLink) → is_beyond p o w ≡ link_beyond (suc p) o w
@@ -492,69 +461,17 @@ module _ {m : MultiPortGraph} (w : MultiWf m) (n : ℕ) (k : NodeMeta) (open_nod
   -- the slots lie in the tables
   pub row_fits : (sides : Sides) → (ports_from k sides ≤ ports_to k sides) × (ports_to k sides ≤ port_slots)
   row_fits sides =
-      let s : w.model.node n ≡ live k = node_of_meta w.fine.good w.fine.holds n k meta in
-      let a = w.fine.good.ports_in_block n k s in
-      let b = w.fine.good.block_ends n k s in
-      let c = w.fine.good.ports_fit in
-      go sides (omega arith)
+      go sides (ports_end w.fine.good n k (node_of_meta w.fine.good w.fine.holds n k meta))
     where
       go : (sides : Sides) → k.first_port.0 + (k.incoming + k.outgoing) ≤ port_slots → (ports_from k sides ≤ ports_to k sides) × (ports_to k sides ≤ port_slots)
       go (One Incoming) l = (omega arith, omega arith)
       go (One Outgoing) l = (omega arith, omega arith)
       go Both l = (omega arith, omega arith)
 
-  -- What is left of a block's links beyond what is held, under any test of the links.
+  pub row_end : (sides : Sides) → min (ports_to k sides) port_slots ≡ ports_to k sides
+  row_end sides = let r = row_fits sides in omega arith
 
-  pub block_links_all : (t : SubportLink → Bool) (sides : Sides) (held o : ℕ) → held ≤ ports_from k sides →
-      filter (link_beyond held o) (filter t (by_sides (λ d. side_links m d n) sides)) ≡ filter t (links_from_to m (ports_from k sides) (ports_to k sides - ports_from k sides))
-  block_links_all t sides held o l =
-      filter_swap (link_beyond held o) t (by_sides (λ d. side_links m d n) sides)
-      ∙ ap (filter t)
-      (ap (filter (link_beyond held o)) (links_in_row sides) ∙ links_all m held o (ports_from k sides) (ports_across k sides) l)
-
-  pub block_links_none : (t : SubportLink → Bool) (sides : Sides) (p o : ℕ) → ports_to k sides ≤ p →
-      filter (link_beyond (suc p) o) (filter t (by_sides (λ d. side_links m d n) sides)) ≡ []
-  unfolding filter
-  block_links_none t sides p o l =
-      let r = row_fits sides in
-      filter_swap (link_beyond (suc p) o) t (by_sides (λ d. side_links m d n) sides)
-      ∙ ap (filter t)
-      (ap (filter (link_beyond (suc p) o)) (links_in_row sides) ∙ links_none m p o (ports_from k sides) (ports_across k sides) (omega arith))
-
-  pub block_links_rest : (t : SubportLink → Bool) (sides : Sides) (p o : ℕ) → ports_from k sides ≤ p → p < ports_to k sides →
-      filter (link_beyond (suc p) o) (filter t (by_sides (λ d. side_links m d n) sides)) ≡ filter t (filter (link_past o) (port_links m p)) ++ filter t (links_from_to m (suc p) (ports_to k sides - suc p))
-  block_links_rest t sides p o l h =
-      let r = row_fits sides in
-      let q : ports_from k sides + ports_across k sides - suc p ≡ ports_to k sides - suc p = omega arith in
-      filter_swap (link_beyond (suc p) o) t (by_sides (λ d. side_links m d n) sides)
-      ∙ (ap (filter t)
-      (ap (filter (link_beyond (suc p) o)) (links_in_row sides)
-      ∙ (links_rest m p o (ports_from k sides) (ports_across k sides) l (omega arith)
-      ∙ ap (λ (c : ℕ). filter (link_past o) (port_links m p) ++ links_from_to m (suc p) c) q))
-      ∙ filter_append t (filter (link_past o) (port_links m p)) (links_from_to m (suc p) (ports_to k sides - suc p)))
-
-  -- and of its subports
-
-  pub block_subports_all : (sides : Sides) (held o : ℕ) → held ≤ ports_from k sides →
-      filter (subport_beyond held o) (subports_of m n sides) ≡ subports_from_to m (ports_from k sides) (ports_to k sides - ports_from k sides)
-  block_subports_all sides held o l =
-      ap (filter (subport_beyond held o)) (subports_in_row sides) ∙ subports_all m held o (ports_from k sides) (ports_across k sides) l
-
-  pub block_subports_none : (sides : Sides) (p o : ℕ) → ports_to k sides ≤ p → filter (subport_beyond (suc p) o) (subports_of m n sides) ≡ []
-  block_subports_none sides p o l =
-      let r = row_fits sides in
-      ap (filter (subport_beyond (suc p) o)) (subports_in_row sides) ∙ subports_none m p o (ports_from k sides) (ports_across k sides) (omega arith)
-
-  pub block_subports_rest : (sides : Sides) (p o : ℕ) → ports_from k sides ≤ p → p < ports_to k sides →
-      filter (subport_beyond (suc p) o) (subports_of m n sides) ≡ filter (subport_past o) (subports_at m p) ++ subports_from_to m (suc p) (ports_to k sides - suc p)
-  block_subports_rest sides p o l h =
-      let r = row_fits sides in
-      let q : ports_from k sides + ports_across k sides - suc p ≡ ports_to k sides - suc p = omega arith in
-      ap (filter (subport_beyond (suc p) o)) (subports_in_row sides)
-      ∙ (subports_rest m p o (ports_from k sides) (ports_across k sides) l (omega arith)
-      ∙ ap (λ (c : ℕ). filter (subport_past o) (subports_at m p) ++ subports_from_to m (suc p) c) q)
-
-  -- and of its ports: those from what is held on
+  -- What is left of a block's ports beyond what is held: those from it on.
   pub block_ports_rest : (sides : Sides) (held : ℕ) →
       filter (leb held) (ports_of_node m n sides) ≡ range (max (ports_from k sides) held) (ports_to k sides - max (ports_from k sides) held)
   block_ports_rest sides held =
@@ -582,12 +499,3 @@ module _ (m : MultiPortGraph) (p n : ℕ) (d : Direction) (s : seen m p ≡ visi
   pub links_of_plain : is_split m p ≡ false → port_links m p ≡ wire_of m d (subport# p 0)
   unfolding port_links subports_of_port flat_map
   links_of_plain e = rw (s, e) (append-nil (wire_of m d (subport# p 0)))
-
-  pub split_subports_rest : (o : ℕ) → is_split m p ≡ true → filter (subport_past o) (subports_at m p) ≡ map (subport# p) (range (suc o) (subports m p d - suc o))
-  split_subports_rest o e =
-      ap (filter (subport_past o)) (subports_of_split e)
-      ∙ (filter_map (subport# p) (subport_past o) (range 0 (subports m p d)) ∙ ap (map (subport# p)) (offsets_past o (subports m p d)))
-
-  pub plain_subports_rest : (o : ℕ) → is_split m p ≡ false → filter (subport_past o) (subports_at m p) ≡ []
-  unfolding filter
-  plain_subports_rest o e = ap (filter (subport_past o)) (subports_of_plain e) ∙ rw (le-ltb o 0 (omega arith))

@@ -1,21 +1,22 @@
 -- What the scans over lent tables list is what the walks list: under MultiWf the links of a port, of a row of ports beyond what a
 -- cursor holds, and of all blocks.
-use Rattle.std.specs.Prelude.{◌≡◌, Bool, eqb, leb, get_or, Some}
+use Rattle.std.specs.Prelude.{◌≡◌, Bool, eqb, get_or, Some}
 use Rattle.std.proofs.Math.Path.{refl, sym, ap}
 use Rattle.std.proofs.Common.{◌∙◌}
 use Rattle.std.proofs.Math.Bool.{true, false, cond}
 use mathlib.Core.List.{List, [], ◌∷◌, ◌++◌, append-nil, flat_map}
-use Prim.Native.Nat.{ℕ, zero, suc, ◌+◌, ◌-◌, ◌≤◌, ◌<◌, min}
+use Prim.Native.Nat.{ℕ, zero, suc, ◌+◌, ◌-◌, ◌<◌, min}
 use native.Mathlib.Omega.{arith}
 use Rattle.std.proofs.Math.Dec.{ltb}
-use borrow.Author.Tests.{lt-ltb, ltb-true, ltb-false, leb-true, leb-false}
+use borrow.Author.Tests.{lt-ltb, ltb-true, ltb-false}
 use Rattle.port_tables.specs.Limits.{node_slots, port_slots}
-use Rattle.port_tables.specs.Lists.{range, filter}
+use Rattle.port_tables.specs.Lists.{range}
+use Rattle.std.specs.List.{filter}
 use Rattle.port_tables.specs.Entries.{fresh_slot, port_entry, meta_of_entry, ports_from, ports_to}
 use Rattle.port_tables.specs.Tables.{at}
 use Rattle.port_tables.specs.TableSteps.{at_outside}
 use Rattle.portgraph.specs.Lookups.{meta_at, is_some, port_at, entry_at}
-use Rattle.portgraph.specs.GoodSlots.{zero_is_not_one, slot_in_block}
+use Rattle.portgraph.specs.GoodSlots.{zero_is_not_one, slot_in_block, node_below}
 use Rattle.portgraph.specs.PlaceLaws.{meta_of_node}
 use Rattle.port_tables.specs.declared.direction.Direction.{Direction}
 use Rattle.port_tables.specs.declared.direction.Direction.TheVariants.{Incoming, Outgoing}
@@ -28,15 +29,14 @@ use Rattle.port_tables.specs.declared.port_entry.PortMeta.{PortMeta}
 use Rattle.port_tables.specs.declared.port_entry.PortEntry.TheVariants as port_variants
 use Rattle.multiportgraph.specs.Reading.{is_hidden, is_split, seen, subports, subport_at, end_at, link_of_end}
 use Rattle.multi_tables.specs.Forms.{Port, dead, hidden, visible, End, inner, lacking, subport#, flag_at, wire_to}
-use Rattle.multi_tables.specs.FormSteps.{flag_is}
 use Rattle.multiportgraph.specs.WellFormed.{MultiWf}
 use Rattle.multiportgraph.specs.Ends.{block_seen}
 use Rattle.multi_tables.specs.TableReads.{far_in, count_beside, first_beside, end_beside, first_in, end_in, wire_in}
-use Rattle.multiportgraph.specs.TableReadLaws.{seen_read, subports_read, end_read_off, wire_read, end_is_port}
+use Rattle.multiportgraph.specs.TableReadLaws.{seen_read, subports_read, end_read_off, wire_read, end_is_port, flag_told, mark_told}
 use Rattle.multiportgraph.specs.Wires.{is_block, blocks, wire_of, side_links, all_wires, is_beyond, wires_beyond}
 use Rattle.multiportgraph.specs.Walks.{by_sides, port_links_seen, port_links, link_beyond}
-use Rattle.port_tables.specs.Listing.{member_range, member_filter, filter_append}
-use Rattle.multiportgraph.specs.ScanLaws.{links_from_to, link_past, flat_map_same, flat_map_under, filter_swap, offsets_past, wire_stands, links_on, links_end, filter_beyond_held, links_of_split, links_of_plain, row_fits, block_links_all, block_links_rest, block_links_none}
+use Rattle.port_tables.specs.Listing.{member_range, member_filter}
+use Rattle.multiportgraph.specs.ScanLaws.{links_from_to, link_past, flat_map_same, flat_map_under, filter_swap, offsets_past, wire_stands, filter_beyond_held, links_of_split, links_of_plain, link_at_port, links_in_row, row_fits, row_past, row_end}
 use Rattle.multi_tables.specs.Scans.{span_first, span_count, links_in, port_links_by, port_links_in, links_rest, beyond_in, block_links_in, wires_in}
 use Rattle.multi_tables.specs.ScanSteps.{filter_every}
 use Rattle.multiportgraph.specs.declared.multiportgraph.MultiPortGraph.{MultiPortGraph}
@@ -59,14 +59,6 @@ end_from_first owners q o x Outgoing e = go (ltb (q + 1 + o) port_slots) (eqb (a
     go false c h = absurd (zero_is_not_one (cc))
 
 module _ (m : MultiPortGraph) (w : MultiWf m) where
-  pub mark_told : (p : ℕ) → flag_at m.multiport port_slots p ≡ is_split m p
-  unfolding is_split
-  mark_told p = flag_is m.multiport port_slots p w.fine.marks_long
-
-  flag_told : (n : ℕ) → flag_at m.copy_node node_slots n ≡ is_hidden m n
-  unfolding is_hidden
-  flag_told n = flag_is m.copy_node node_slots n w.fine.flags_long
-
   -- a live port lies in the tables
   port_inside : (q : ℕ) (k : PortMeta) → port_at m.graph q ≡ port_variants.Port k → q < port_slots
   unfolding port_entry
@@ -85,8 +77,7 @@ module _ (m : MultiPortGraph) (w : MultiWf m) where
       let b = block_seen w.fine p n d e in
       let f = w.fine in
       let r = slot_in_block f.good b.place b.is_seen.0 in
-      let u = f.good.node_used b.place.node r.0 r.1 in
-      let k = f.good.nodes_fit in
+      let u = node_below f.good b.place.node r.0 r.1 in
       let eq = b.node in
       let t : is_some (meta_at m.graph b.place.node) ≡ true = rw (meta_of_node f.good f.holds b.place.node r.0 r.1) refl in
       let h : cond (is_hidden m b.place.node) false (is_some (meta_at m.graph b.place.node)) ≡ true = rw b.is_seen.1 t in
@@ -101,11 +92,11 @@ module _ (m : MultiPortGraph) (w : MultiWf m) where
 
     pub count_split : is_split m p ≡ true → count ≡ subports m p d
     unfolding span_count
-    count_split t = rw (mark_told p, t) (subports_read w.fine p n d s t)
+    count_split t = rw (mark_told w.fine p, t) (subports_read w.fine p n d s t)
 
     pub count_plain : is_split m p ≡ false → count ≡ 1
     unfolding span_count
-    count_plain t = rw (mark_told p, t)
+    count_plain t = rw (mark_told w.fine p, t)
 
     inner_inside : (o q : ℕ) → end_at m p d o ≡ inner q → q < port_slots
     inner_inside o q e = let k = end_is_port w.fine p n d s o q e in port_inside q k.0 k.1
@@ -122,16 +113,16 @@ module _ (m : MultiPortGraph) (w : MultiWf m) where
       end_beside_lem : is_split m p ≡ true → end_beside m.graph.port_meta (far_in m.graph.port_link p) d o ≡ inner (subport_at m p d o)
       unfolding end_in
       end_beside_lem t =
-          let e : end_beside m.graph.port_meta (far_in m.graph.port_link p) d o ≡ end_in m.multiport m.graph.port_link m.graph.port_meta p d o = rw (mark_told p, t) in
+          let e : end_beside m.graph.port_meta (far_in m.graph.port_link p) d o ≡ end_in m.multiport m.graph.port_link m.graph.port_meta p d o = rw (mark_told w.fine p, t) in
           e ∙ (end_read_off w.fine p n d s o ∙ end_of_split t)
 
       first_of_split : is_split m p ≡ true → first ≡ min (first_beside m.graph.port_meta (far_in m.graph.port_link p) d) port_slots
       unfolding span_first first_in
-      first_of_split t = rw (mark_told p, t)
+      first_of_split t = rw (mark_told w.fine p, t)
 
       first_of_plain : is_split m p ≡ false → first ≡ min p port_slots
       unfolding span_first
-      first_of_plain t = rw (mark_told p, t)
+      first_of_plain t = rw (mark_told w.fine p, t)
 
       -- the end at an offset is the slot so far from the first
       end_slot : end_at m p d o ≡ inner (first + o)
@@ -219,7 +210,7 @@ module _ (m : MultiPortGraph) (w : MultiWf m) where
 
   past_none : (p o : ℕ) (s : Port) → seen m p ≡ s → port_links_seen m p s ≡ [] → port_links_by m.multiport m.graph.port_link m.graph.port_meta m.copy_node p (suc o) s ≡ []
       → table_links p (suc o) ≡ filter (link_past o) (port_links m p)
-  unfolding port_links_in port_links filter
+  unfolding port_links_in port_links
   past_none p o s e f g = rw (seen_read w.fine p, e, f, g)
 
   past_some : (p o n : ℕ) (d : Direction) → seen m p ≡ visible n d → table_links p (suc o) ≡ filter (link_past o) (port_links m p)
@@ -237,77 +228,18 @@ module _ (m : MultiPortGraph) (w : MultiWf m) where
       go hidden e = past_none p o hidden e refl refl
       go (visible n d) e = past_some p o n d e
 
-  abbrev table_rest : ℕ → ℕ → ℕ → List SubportLink
-  table_rest p o c = links_rest m.multiport m.graph.port_link m.graph.port_meta m.copy_node p o c
-
-  row_read : (c p : ℕ) → table_rest p 0 c ≡ links_from_to m p c
-  unfolding links_rest
-  row_read zero p = sym (links_end m p)
-  row_read (suc c) p =
-      let a = port_links_read p in
-      let r = row_read c (suc p) in
-      (λ i. a i ++ r i) ∙ sym (links_on m p c)
-
-  module _ (n : ℕ) (k : NodeMeta) (open_node : is_hidden m n ≡ false) (meta : meta_at m.graph n ≡ Some k) (t : SubportLink → Bool) (sides : Sides) where
-    fits : min (ports_to k sides) port_slots ≡ ports_to k sides
-    fits = let r = row_fits w n k open_node meta sides in omega arith
-
-    none : filter t [] ≡ []
-    unfolding filter
-    none = refl
-
-    abbrev listed : ℕ → ℕ → List SubportLink
-    listed held o = filter (link_beyond held o) (filter t (by_sides (λ d. side_links m d n) sides))
-
-    module _ (held o : ℕ) where
-      abbrev scanned : List SubportLink
-      scanned = beyond_in m.multiport m.graph.port_link m.graph.port_meta m.copy_node (ports_from k sides) (ports_to k sides) held o
-
-      scanned_all : leb held (ports_from k sides) ≡ true → scanned ≡ table_rest (ports_from k sides) 0 (ports_to k sides - ports_from k sides)
-      unfolding beyond_in
-      scanned_all e = rw (e, fits)
-
-      scanned_rest : leb held (ports_from k sides) ≡ false → scanned ≡ table_rest (held - 1) (suc o) (ports_to k sides - (held - 1))
-      unfolding beyond_in
-      scanned_rest e = rw (e, fits)
-
-      rest_within : (p : ℕ) → p < ports_to k sides → table_rest p (suc o) (ports_to k sides - p) ≡ filter (link_past o) (port_links m p) ++ links_from_to m (suc p) (ports_to k sides - suc p)
-      unfolding links_rest
-      rest_within p l =
-          let e : ports_to k sides - p ≡ suc (ports_to k sides - suc p) = omega arith in
-          let a = port_links_past p o in
-          let r = row_read (ports_to k sides - suc p) (suc p) in
-          rw e (λ i. a i ++ r i)
-
-      rest_after : (p : ℕ) → ports_to k sides ≤ p → table_rest p (suc o) (ports_to k sides - p) ≡ []
-      unfolding links_rest
-      rest_after p l = let e : ports_to k sides - p ≡ 0 = omega arith in rw e
-
-      held_is : (p : ℕ) → held ≡ suc p → listed (suc p) o ≡ listed held o
-      held_is p e = ap (λ (x : ℕ). listed x o) (sym e)
-
-      -- the links of a block beyond what a cursor holds, under any test
-      pub beyond_read : filter t scanned ≡ listed held o
-      beyond_read = go (leb held (ports_from k sides)) refl
-        where
-          beyond : (b : Bool) → ltb (held - 1) (ports_to k sides) ≡ b → leb held (ports_from k sides) ≡ false
-              → filter t (table_rest (held - 1) (suc o) (ports_to k sides - (held - 1))) ≡ listed held o
-          beyond true e g =
-              let l = leb-false held (ports_from k sides) g in
-              let h = ltb-true (held - 1) (ports_to k sides) e in
-              ap (filter t) (rest_within (held - 1) h)
-              ∙ (filter_append t (filter (link_past o) (port_links m (held - 1))) (links_from_to m (suc (held - 1)) (ports_to k sides - suc (held - 1)))
-              ∙ (sym (block_links_rest w n k open_node meta t sides (held - 1) o (omega arith) h) ∙ held_is (held - 1) (omega arith)))
-          beyond false e g =
-              let l = leb-false held (ports_from k sides) g in
-              let h = ltb-false (held - 1) (ports_to k sides) e in
-              ap (filter t) (rest_after (held - 1) h) ∙ (none ∙ (sym (block_links_none w n k open_node meta t sides (held - 1) o h) ∙ held_is (held - 1) (omega arith)))
-
-          go : (b : Bool) → leb held (ports_from k sides) ≡ b → filter t scanned ≡ listed held o
-          go true e =
-              ap (filter t) (scanned_all e ∙ row_read (ports_to k sides - ports_from k sides) (ports_from k sides))
-              ∙ sym (block_links_all w n k open_node meta t sides held o (leb-true held (ports_from k sides) e))
-          go false e = ap (filter t) (scanned_rest e) ∙ beyond (ltb (held - 1) (ports_to k sides)) refl e
+  module _ (n : ℕ) (k : NodeMeta) (open_node : is_hidden m n ≡ false) (meta : meta_at m.graph n ≡ Some k) (t : SubportLink → Bool) (sides : Sides) (held o : ℕ) where
+    -- the links of a block beyond what a cursor holds, under any test
+    pub beyond_read : filter t (beyond_in m.multiport m.graph.port_link m.graph.port_meta m.copy_node (ports_from k sides) (ports_to k sides) held o)
+        ≡ filter (link_beyond held o) (filter t (by_sides (λ d. side_links m d n) sides))
+    unfolding beyond_in links_rest links_from_to is_beyond
+    beyond_read =
+        ap (filter t)
+        (rw (row_end w n k open_node meta sides)
+        (row_past (λ (v : SubportLink). v.from.port.0) (λ (v : SubportLink). v.from.subport_offset) (port_links m) (link_at_port m) table_links port_links_read port_links_past
+        (links_rest m.multiport m.graph.port_link m.graph.port_meta m.copy_node) (λ p i. refl) (λ p i c. refl) (ports_from k sides) (ports_to k sides) held o (row_fits w n k open_node meta sides).0)
+        ∙ ap (filter (link_beyond held o)) (sym (links_in_row w n k open_node meta sides)))
+        ∙ filter_swap t (link_beyond held o) (by_sides (λ d. side_links m d n) sides)
 
   -- Blocks.
 
@@ -318,7 +250,7 @@ module _ (m : MultiPortGraph) (w : MultiWf m) where
       → block_links_in m.multiport m.graph.port_link m.graph.port_meta m.copy_node (get_or m.graph.node_meta n fresh_slot).entry (flag_at m.copy_node node_slots n) held o
       ≡ block_part n held o
   unfolding is_block
-  block_part_lem n held o = rw (flag_told n) (go (entry_at m.graph n) refl (is_hidden m n) refl)
+  block_part_lem n held o = rw (flag_told w.fine n) (go (entry_at m.graph n) refl (is_hidden m n) refl)
     where
       go : (e : NodeEntry) → entry_at m.graph n ≡ e → (h : Bool) → is_hidden m n ≡ h
           → block_links_in m.multiport m.graph.port_link m.graph.port_meta m.copy_node e h held o
@@ -335,7 +267,7 @@ module _ (m : MultiPortGraph) (w : MultiWf m) where
   table_wires n held o c = wires_in m.multiport m.graph.port_link m.graph.port_meta m.copy_node m.graph.node_meta n held o c
 
   wires_later : (c n : ℕ) → table_wires n 0 0 c ≡ flat_map (side_links m Outgoing) (filter (is_block m) (range n c))
-  unfolding wires_in range flat_map filter
+  unfolding wires_in range flat_map
   wires_later zero n = refl
   wires_later (suc c) n = go (is_block m n) (block_part_lem n 0 0 ∙ ap (λ (l : List SubportLink). cond (is_block m n) l []) (filter_every (side_links m Outgoing n))) (wires_later c (suc n))
     where

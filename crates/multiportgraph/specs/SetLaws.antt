@@ -1,10 +1,9 @@
 -- Other counts for a block: the lower resize leaves the hidden nodes of dropped ports hanging on nothing (`Loose`), and they go
 -- one after the other. Every wire at a dropped position goes, all others stay.
-use Rattle.multiportgraph.specs.LinkCutLaws.{nowhere_not_to}
 use Rattle.std.proofs.lemmas.Bool.{cases_eq}
 use Rattle.std.specs.Prelude.{◌≡◌, Bool, ◌||◌, List, [], ◌∷◌, ◌++◌, ◌⊎◌, leb, set, length, Option, Some, None, Ok, Err, Result}
 use Rattle.std.proofs.Math.Path.{refl, sym, ap, subst}
-use Rattle.std.proofs.Common.{◌∙◌, inl, inr, leb-true, leb-false, le-leb, eq-eqb, ne_eqb}
+use Rattle.std.proofs.Common.{◌∙◌, inl, inr, leb-true, leb-false, ne_eqb}
 use Rattle.std.proofs.Math.Bool.{true, false, cond}
 use Rattle.std.proofs.Math.Logic.{⊎_elim}
 use Prim.Native.Nat.{ℕ, zero, suc, ◌+◌, ◌-◌, ◌≤◌, ◌<◌, min}
@@ -25,7 +24,7 @@ use Rattle.portgraph.specs.Resize.{set_num_ports}
 use Rattle.portgraph.specs.declared.alloc.NodeRemoved.{NodeRemoved}
 use Rattle.portgraph.specs.SlotHolds.{remove_law, remove_slots, free_holds}
 use Rattle.portgraph.specs.GoodLaws.{good_remove}
-use Rattle.portgraph.specs.GoodSlots.{zero_is_not_one, gone_not_live, upd_same, upd_other, joined_is_valid, slots_apart, slot_in_range}
+use Rattle.portgraph.specs.GoodSlots.{zero_is_not_one, gone_not_live, upd_same, upd_other, joined_is_valid, slots_apart, slot_in_range, node_below}
 use Rattle.portgraph.specs.Sums.{drop_there, drop_nowhere, drop_kept, drop_joined, total_one, total_same}
 use Rattle.portgraph.specs.PlaceLaws.{meta_of_node, node_of_meta, port_index_is}
 use Rattle.port_tables.specs.declared.direction.Direction.{Direction}
@@ -36,13 +35,13 @@ use Rattle.multiportgraph.specs.Reading.{is_hidden, is_split, copy_side, copy_no
 use Rattle.multiportgraph.specs.Calls.{set_as, set_counts}
 use Rattle.multiportgraph.specs.WellFormed.{inner#, copy_place, Fine, Marked, copy_port, main_port_lem, BlockIs, Seen, outer, IsEnd, Wiring, subports_of_slot}
 use Rattle.multiportgraph.specs.Ends.{Hangs, hangs, one_copy, split_has_copy, copy_valid, main_seen, outer_of_subport, outer_of_block}
-use Rattle.multiportgraph.specs.HiddenStays.{copy_side_is, true_not_false}
-use Rattle.multiportgraph.specs.RecountLaws.{Recount, SomeRecount, set_recounts, below_stays, stays_below, count_new, slot_on_side, PlaceAt, place_among, WasMarked, Shape, recount_marks, marked_was, marks_long_lem, other_count, count_after, both_sides}
+use Rattle.multiportgraph.specs.HiddenStays.{copy_side_is, same_copy, same_wire, true_not_false, wire_again}
+use Rattle.multiportgraph.specs.RecountLaws.{Recount, SomeRecount, set_recounts, below_stays, stays_below, count_new, slot_on_side, PlaceAt, place_among, WasMarked, Shape, recount_marks, marked_was, marks_long_lem, other_count, count_at, both_sides}
 use Rattle.multiportgraph.specs.declared.multiportgraph.MultiPortGraph.{MultiPortGraph}
 use Rattle.multiportgraph.specs.declared.multiportgraph.PortsSet.{PortsSet}
 use Rattle.multi_tables.specs.declared.answers.Refusal.{Refusal}
 use Rattle.multi_tables.specs.declared.answers.Refusal.TheVariants.{TooManyPorts, UnknownNode, HiddenNode}
-use Rattle.port_tables.specs.Places.{Wire, touches, of_dropped, flag}
+use Rattle.port_tables.specs.Places.{touches, of_dropped, flag}
 use Rattle.multiportgraph.specs.HiddenNodes.{recounted, copies_in, copies_dropped, remove_copy, remove_lone, remove_all}
 use Rattle.multiportgraph.specs.Cases.{resized, set_meta}
 use Rattle.multiportgraph.specs.CaseLaws.{set_cases}
@@ -51,6 +50,7 @@ use Rattle.portgraph.specs.declared.resize.SetError.{SetError}
 use Rattle.port_tables.specs.Listing.{member_left, member_right, member_append}
 use Rattle.std.proofs.lemmas.Bool.{or_parts}
 use Rattle.portgraph.specs.DropHolds.{is_beyond}
+use Rattle.portgraph.specs.Joins.{nowhere_not_to}
 
 -- Lists.
 
@@ -333,8 +333,7 @@ module _ {m : MultiPortGraph} {M : Model} (c : ℕ) (cs : List ℕ) (l : Loose m
   lone_shown : is_hidden (remove_lone m c) c ≡ false
   unfolding is_hidden remove_lone remove_copy
   lone_shown =
-      let u = l.good.node_used c meta_there here_there in
-      let v = l.good.nodes_fit in
+      let u = node_below l.good c meta_there here_there in
       let w = l.flags_long in
       get_or-set_same m.copy_node c false false (omega arith)
 
@@ -378,9 +377,6 @@ module _ {m : MultiPortGraph} {M : Model} (c : ℕ) (cs : List ℕ) (l : Loose m
       let t = l.shape k h in
       copy_side_is (remove_lone m c) k t.meta (copy_side m k) (meta_of_node lone_good lone_holds k t.meta (lone_other k ne ∙ t.here)) t.single t.several
 
-  lone_place : (k : ℕ) → (k ≡ c → ⊥) → is_hidden m k ≡ true → copy_place (remove_lone m c) k ≡ copy_place m k
-  lone_place k ne h = ap (λ (d : Direction). inner# k d 0) (lone_side k ne h)
-
   -- a place of another node is not at the copy port's slot
   not_there : (x : model.InnerPlace) → Valid M.node x → (x.node ≡ c → ⊥) → slot_of M.node x ≡ slot_of M.node (copy_place m c) → ⊥
   not_there x v ne e = ne (ap (λ (y : model.InnerPlace). y.node) (slots_apart l.good x (copy_place m c) v copy_there e))
@@ -397,14 +393,14 @@ module _ {m : MultiPortGraph} {M : Model} (c : ℕ) (cs : List ℕ) (l : Loose m
       by : Marked m M s → Marked (remove_lone m c) lone s
       by (copy_port k h q) =
           let ne : (k ≡ c → ⊥) = λ t. apart (sym q ∙ ap (λ (j : ℕ). slot_of M.node (copy_place m j)) t) in
-          copy_port k (lone_hidden k ne ∙ h) (ap (slot_of lone.node) (lone_place k ne h) ∙ lone_slot (copy_place m k) ne ∙ q)
+          copy_port k (lone_hidden k ne ∙ h) (ap (slot_of lone.node) (same_copy (lone_side k ne h)) ∙ lone_slot (copy_place m k) ne ∙ q)
       by (main_port_lem k x h j q) =
           let ne : (k ≡ c → ⊥) = λ t. nowhere_not_to free_there (sym (ap (λ (j : ℕ). M.join (copy_place m j)) t) ∙ j) in
           let t = l.hung k h (λ u. nowhere_not_to (l.loose k u).1 j) in
           let d = t.1 in
           let same : t.0 ≡ x = cc in
           let xe : (x.node ≡ c → ⊥) = λ u. true_not_false (ap (is_hidden m) u ∙ is_hidden_lem) (sym (ap (λ (y : model.InnerPlace). is_hidden m y.node) same) ∙ t.2) in
-          main_port_lem k x (lone_hidden k ne ∙ h) (ap lone.join (lone_place k ne h) ∙ lone_join (copy_place m k) x ne xe j) (lone_slot x xe ∙ q)
+          main_port_lem k x (lone_hidden k ne ∙ h) (ap lone.join (same_copy (lone_side k ne h)) ∙ lone_join (copy_place m k) x ne xe j) (lone_slot x xe ∙ q)
 
   lone_marks_long : length (remove_lone m c).multiport ≡ port_slots
   unfolding remove_lone remove_copy
@@ -415,7 +411,7 @@ module _ {m : MultiPortGraph} {M : Model} (c : ℕ) (cs : List ℕ) (l : Loose m
   lone_flags_long = length-set m.copy_node c false ∙ l.flags_long
 
   below : c < node_slots
-  below = let u = l.good.node_used c meta_there here_there in let v = l.good.nodes_fit in omega arith
+  below = node_below l.good c meta_there here_there
 
   lone_copies : (remove_lone m c).copy_node_count ≡ total node_slots (λ n. flag (is_hidden (remove_lone m c) n))
   unfolding remove_lone remove_copy
@@ -459,19 +455,19 @@ module _ {m : MultiPortGraph} {M : Model} (c : ℕ) (cs : List ℕ) (l : Loose m
             let w = still k h in
             let t = l.hung k w.1 (⊎_elim w.0 out) in
             let xe : (t.0.node ≡ c → ⊥) = λ u. true_not_false (ap (is_hidden m) u ∙ is_hidden_lem) t.2 in
-            (t.0, ap lone.join (lone_place k w.0 w.1) ∙ lone_join (copy_place m k) t.0 w.0 xe t.1, lone_hidden t.0.node xe ∙ t.2);
+            (t.0, ap lone.join (same_copy (lone_side k w.0 w.1)) ∙ lone_join (copy_place m k) t.0 w.0 xe t.1, lone_hidden t.0.node xe ∙ t.2);
         loose = λ k h.
             let t = l.loose k (inr h) in
             let ne : (k ≡ c → ⊥) = λ q. l.once.0 (subst (λ (j : ℕ). Member j cs) q h) in
-            (lone_hidden k ne ∙ t.0, ap lone.join (lone_place k ne t.0) ∙ drop_nowhere (at_node c) M.join (copy_place m k) t.1);
+            (lone_hidden k ne ∙ t.0, ap lone.join (same_copy (lone_side k ne t.0)) ∙ drop_nowhere (at_node c) M.join (copy_place m k) t.1);
         once = l.once.1;
         copy_marked = λ k h.
             let w = still k h in
-            ap (λ (y : model.InnerPlace). is_split (remove_lone m c) (slot_of lone.node y)) (lone_place k w.0 w.1)
+            ap (λ (y : model.InnerPlace). is_split (remove_lone m c) (slot_of lone.node y)) (same_copy (lone_side k w.0 w.1))
             ∙ lone_mark_at (copy_place m k) (copy_is_there l k w.1) w.0 ∙ l.copy_marked k w.1;
         main_marked = λ k x h j.
             let w = still k h in
-            let t = lone_joined (copy_place m k) x (sym (ap lone.join (lone_place k w.0 w.1)) ∙ j) in
+            let t = lone_joined (copy_place m k) x (sym (ap lone.join (same_copy (lone_side k w.0 w.1))) ∙ j) in
             lone_mark_at x (joined_is_valid l.good (copy_place m k) x t.0) t.2 ∙ l.main_marked k x w.1 t.0;
         only_marked = lone_only;
         copies = lone_copies;
@@ -596,9 +592,6 @@ module _ {m : MultiPortGraph} {M : Model} (f : Fine m M) (n : ℕ) (a : NodeMeta
         let c = f.copy k h in
         copy_side_is (recounted m n g') k c.meta (copy_side m k) (meta_of_node r.good re_holds k c.meta (r.others k (not_n k h) ∙ c.here)) c.single c.several
 
-    re_place : (k : ℕ) → is_hidden m k ≡ true → copy_place (recounted m n g') k ≡ copy_place m k
-    re_place k h = ap (λ (d : Direction). inner# k d 0) (re_side k h)
-
     re_join : (x y : model.InnerPlace) → M.join x ≡ to y → (x.node ≡ n → x.pos < new_count i o x.side) → (y.node ≡ n → y.pos < new_count i o y.side) → M'.join x ≡ to y
     re_join x y j p q = r.join x ∙ drop_kept (beyond n i o) M.join x y j (below_stays n i o x p) (below_stays n i o y q)
 
@@ -607,12 +600,12 @@ module _ {m : MultiPortGraph} {M : Model} (f : Fine m M) (n : ℕ) (a : NodeMeta
 
     re_valid : (x : model.InnerPlace) → Valid M.node x → (x.node ≡ n → x.pos < new_count i o x.side) → Valid M'.node x
     re_valid x v s = ⊎_elim
-        (λ e. let p = count_after f r x e in let q = count_new b i o x.side r.ins r.outs in let h = s e in omega arith)
+        (λ e. let p = count_at M' r.there x e in let q = count_new b i o x.side r.ins r.outs in let h = s e in omega arith)
         (λ e. let p = other_count f r x.node x.side e in omega arith)
         (cases_eq x.node n)
 
     valid_below : (x : model.InnerPlace) → Valid M'.node x → x.node ≡ n → x.pos < new_count i o x.side
-    valid_below x v e = let p = count_after f r x e in let q = count_new b i o x.side r.ins r.outs in omega arith
+    valid_below x v e = let p = count_at M' r.there x e in let q = count_new b i o x.side r.ins r.outs in omega arith
 
     re_flags_long : length (recounted m n g').copy_node ≡ node_slots
     unfolding recounted
@@ -639,11 +632,11 @@ module _ {m : MultiPortGraph} {M : Model} (f : Fine m M) (n : ℕ) (a : NodeMeta
             by : Marked m M (slot_of M.node w.place) → Marked (recounted m n g') M' s
             by (copy_port c q t) =
                 let z : copy_place m c ≡ w.place = slots_apart f.good (copy_place m c) w.place (copy_valid f c q) w.was t in
-                copy_port c (re_hidden c ∙ q) (ap (slot_of M'.node) (re_place c q ∙ z) ∙ w.slot)
+                copy_port c (re_hidden c ∙ q) (ap (slot_of M'.node) (same_copy (re_side c q) ∙ z) ∙ w.slot)
             by (main_port_lem c y q j t) =
                 let z : y ≡ w.place = slots_apart f.good y w.place (joined_is_valid f.good (copy_place m c) y j) w.was t in
                 let v : Valid M'.node y = subst (λ (u : model.InnerPlace). Valid M'.node u) (sym z) w.is in
-                main_port_lem c y (re_hidden c ∙ q) (ap M'.join (re_place c q) ∙ re_join (copy_place m c) y j (λ u. absurd (not_n c q u)) (valid_below y v))
+                main_port_lem c y (re_hidden c ∙ q) (ap M'.join (same_copy (re_side c q)) ∙ re_join (copy_place m c) y j (λ u. absurd (not_n c q u)) (valid_below y v))
                 (ap (slot_of M'.node) z ∙ w.slot)
 
     pub resize_loosens : Loose (recounted m n g') M' (copies_dropped m a i o)
@@ -665,18 +658,18 @@ module _ {m : MultiPortGraph} {M : Model} (f : Fine m M) (n : ℕ) (a : NodeMeta
           hung = λ k h out.
               let e = sym (re_hidden k) ∙ h in
               let c = f.copy k e in
-              (c.main, ap M'.join (re_place k e) ∙ re_join (copy_place m k) c.main c.joined (λ u. absurd (not_n k e u)) (main_stays k c.main e out c.joined).0, re_hidden c.main.node ∙ c.main_seen);
+              (c.main, ap M'.join (same_copy (re_side k e)) ∙ re_join (copy_place m k) c.main c.joined (λ u. absurd (not_n k e u)) (main_stays k c.main e out c.joined).0, re_hidden c.main.node ∙ c.main_seen);
           loose = λ k h.
               let d = dropped_has f n a shown here i o k h in
-              (re_hidden k ∙ d.is_copy, ap M'.join (re_place k d.is_copy) ∙ r.join _ ∙ drop_there (beyond n i o) M.join (copy_place m k) d.main d.joined (is_beyond n i o d.main d.node d.dropped));
+              (re_hidden k ∙ d.is_copy, ap M'.join (same_copy (re_side k d.is_copy)) ∙ r.join _ ∙ drop_there (beyond n i o) M.join (copy_place m k) d.main d.joined (is_beyond n i o d.main d.node d.dropped));
           once = uniq_dropped f n a shown here i o;
           copy_marked = λ k h.
               let e = sym (re_hidden k) ∙ h in
-              ap (λ (y : model.InnerPlace). is_split (recounted m n g') (slot_of M'.node y)) (re_place k e)
+              ap (λ (y : model.InnerPlace). is_split (recounted m n g') (slot_of M'.node y)) (same_copy (re_side k e))
               ∙ recount_marks f r (copy_place m k) (copy_valid f k e) (re_valid (copy_place m k) (copy_valid f k e) (λ u. absurd (not_n k e u))) ∙ f.copy_marked k e;
           main_marked = λ k x h j.
               let e = sym (re_hidden k) ∙ h in
-              let d = sym (ap M'.join (re_place k e)) ∙ j in
+              let d = sym (ap M'.join (same_copy (re_side k e))) ∙ j in
               let u = re_joined (copy_place m k) x d in
               recount_marks f r x (joined_is_valid f.good (copy_place m k) x u) (joined_is_valid r.good (copy_place m k) x d) ∙ f.main_marked k x e u;
           only_marked = re_only;
@@ -772,10 +765,6 @@ module _ {m : MultiPortGraph} {M : Model} (f : Fine m M) (n : ℕ) (a : NodeMeta
           rw (same, h, p, j)
       go false h = let same = z.tracks.hid x.node s.1 ∙ h in rw (same, h)
 
-  wire_left : (x y : model.InnerPlace) → Stays n i o (copies_dropped m a i o) x → Stays n i o (copies_dropped m a i o) y
-      → ◌≡◌ {A = Wire} (record { out = outer m' z.model' x; into = outer m' z.model' y }) (record { out = outer m M x; into = outer m M y })
-  wire_left x y s t = λ q. record { out = outer_left x s q; into = outer_left y t q }
-
   wires_left : Wiring m M m' z.model' (of_dropped n i o) []
   wires_left =
       record {
@@ -783,29 +772,15 @@ module _ {m : MultiPortGraph} {M : Model} (f : Fine m M) (n : ℕ) (a : NodeMeta
             let d = or_parts (of_dropped n i o (outer m M e.x)) (of_dropped n i o (outer m M e.y)) (sym (ap (touches (of_dropped n i o)) e.is) ∙ t) in
             let s = not_dropped_stays e.x d.0 in
             let u = not_dropped_stays e.y d.1 in
-            record {
-              x = e.x;
-              y = e.y;
-              joined = z.tracks.left e.x e.y e.joined s u;
-              outgoing = e.outgoing;
-              end = end_left e.x e.end s;
-              is = e.is ∙ sym (wire_left e.x e.y s u);
-            };
+            wire_again e (z.tracks.left e.x e.y e.joined s u) (end_left e.x e.end s) (outer_left e.x s) (outer_left e.y u);
         came = λ w e. absurd e;
         only = λ w e.
             let j = z.tracks.was e.x e.y e.joined in
             let s = valid_stays z.tracks e.x e.end.valid in
             let u = valid_stays z.tracks e.y (joined_is_valid z.fine.good e.x e.y e.joined) in
-            let k = e.is ∙ wire_left e.x e.y s u in
+            let k = e.is ∙ same_wire (outer_left e.x s) (outer_left e.y u) in
             inl (
-              record {
-                x = e.x;
-                y = e.y;
-                joined = j;
-                outgoing = e.outgoing;
-                end = end_before e.x (f.good.join_valid e.x e.y j) e.end s;
-                is = k;
-              },
+              wire_again e j (end_before e.x (f.good.join_valid e.x e.y j) e.end s) (sym (outer_left e.x s)) (sym (outer_left e.y u)),
               ap (touches (of_dropped n i o)) k ∙ ap (λ (p : Bool). (p || (of_dropped n i o (outer m M e.y)))) (end_not_dropped e.x s) ∙ end_not_dropped e.y u,
             );
       }

@@ -43,7 +43,7 @@ use Rattle.multiportgraph.specs.WellFormed.{inner#, copy_place, Fine, Seen, Bloc
 use Rattle.multiportgraph.specs.Reading.{owner_of, copy_side, has_link, port_of, is_hidden, is_split, seen, copy_node, subports, end_at, as_read, far_subport, far_port, subport_at}
 use Rattle.multi_tables.specs.Forms.{Port, dead, hidden, visible, subport#, End, inner, lacking, good_offset}
 use Rattle.multiportgraph.specs.Ends.{Hangs, split_has_copy, block_seen, seen_block, copy_valid, port_of_lem, far_of, owner_of_lem, BlockPort, seen_still}
-use Rattle.multiportgraph.specs.CopyLaws.{copy_goes, unsplit_split, unsplit_whole}
+use Rattle.multiportgraph.specs.CopyLaws.{copy_goes, unsplit_split}
 use Rattle.multiportgraph.specs.PrepareLaws.{prepare_law}
 use Rattle.multiportgraph.specs.Tidy.{subports_left, left_incoming, left_outgoing, drop_subports, link_directly, tidied}
 use Rattle.multiportgraph.specs.TidyLaws.{DropWithin, no_change, in_block, left_within}
@@ -75,6 +75,7 @@ use Rattle.port_tables.specs.declared.index.NodeIndex.{NodeIndex}
 use Rattle.portgraph.specs.declared.alloc.AddError.{AddError}
 use Rattle.portgraph.specs.declared.portgraph.LinkError.{LinkError}
 use Rattle.portgraph.specs.declared.resize.SetError.{SetError}
+use Rattle.multiportgraph.specs.CopySteps.{unsplit_plain}
 
 -- Lengths never shrink, so what is passed on the way is passed at the end.
 
@@ -497,7 +498,7 @@ module _ {m : MultiPortGraph} {M : Model} (f : Fine m M) where
       (subst (λ (q : ℕ). PreparedSpace M (prepare_works m q b.place.side) (prepare m q b.place.side)) b.slot (prepare_space f b.place b.is_seen))
 
 -- a block's port is seen as one still where the blocks are the same
-still_seen : {m : MultiPortGraph} {M : Model} {m' : MultiPortGraph} {M' : Model} → Fine m M → Fine m' M' → SameBlocks m M m' M' → (p n : ℕ) (d : Direction) → seen m p ≡ visible n d → seen m' p ≡ visible n d
+pub still_seen : {m : MultiPortGraph} {M : Model} {m' : MultiPortGraph} {M' : Model} → Fine m M → Fine m' M' → SameBlocks m M m' M' → (p n : ℕ) (d : Direction) → seen m p ≡ visible n d → seen m' p ≡ visible n d
 still_seen {m} {M} {m'} {M'} f f' same p n d e =
     let b = block_seen f p n d e in
     let k = seen_still f f' same b.place b.is_seen in
@@ -1073,7 +1074,7 @@ range_step j ih m M f n k block p low high r h = go (is_split m p) refl
         (gone_works (copy_node m p) (meta_at m.graph (copy_node m p))) (copy_gone_room m p (copy_node m p) h)))
     go false e =
         subst (λ (v : MultiPortGraph). RangeSays v n k (copies_gone m (copies_in m p (suc j))) r)
-        (ap (λ (v : MultiPortGraph). unsplit_range v (suc p) j) (sym (unsplit_whole m p e)) ∙ sym (range_next m p j))
+        (ap (λ (v : MultiPortGraph). unsplit_range v (suc p) j) (unsplit_plain m p e) ∙ sym (range_next m p j))
         (subst (λ (l : List Work). RangeSays (unsplit_range m (suc p) j) n k l r) (sym (copies_without m p j e))
         (ih m M f n k block (suc p) (omega arith) (omega arith) r h))
 

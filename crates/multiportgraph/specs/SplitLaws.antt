@@ -19,7 +19,7 @@ use Rattle.portgraph.specs.Sums.{place_cases, total_one, upd_same, upd_other, sa
 use Rattle.portgraph.specs.Meaning.{add_model, link_model, unlink_model, same_place, next_slot, next_block, growth}
 use Rattle.portgraph.specs.Calls.{add_node, link_ports, unlink_port, place_node, with_links}
 use Rattle.port_tables.specs.ResizeLinks.{round_up}
-use Rattle.portgraph.specs.GoodSlots.{gone_not_live, zero_is_not_one, slot_in_range, slots_apart, joined_is_valid, same_place_lem}
+use Rattle.portgraph.specs.GoodSlots.{gone_not_live, zero_is_not_one, slot_in_range, slots_apart, joined_is_valid, same_place_lem, node_below}
 use Rattle.portgraph.specs.GoodLaws.{good_link, good_unlink, good_add, next_slot_gone}
 use Rattle.portgraph.specs.LinkHolds.{link_done, link_holds, unlink_linked, unlink_holds}
 use Rattle.portgraph.specs.SlotHolds.{add_law, add_where, place_holds, slot_room, block_room}
@@ -41,7 +41,7 @@ use Rattle.multiportgraph.specs.NeedStays.{Alike, alike_same, alike_linked, need
 use Rattle.multi_tables.specs.TableReads.{far_in, hang_on, copy_at, subports_at}
 use Rattle.multiportgraph.specs.WellFormed.{inner#, copy_place, Copy, Marked, copy_port, main_port_lem, Fine, Seen, lift, lift_far, outer, IsEnd, WireIn, SameBlocks, SameWires, subports_of_slot}
 use Rattle.multiportgraph.specs.Ends.{ends_join_ends, unsplit_no_copy, outer_of_subport, outer_of_block, not_reversed, side_cases}
-use Rattle.multiportgraph.specs.HiddenStays.{same_wire}
+use Rattle.multiportgraph.specs.HiddenStays.{same_copy, same_wire, wire_again}
 use Rattle.multiportgraph.specs.declared.multiportgraph.MultiPortGraph.{MultiPortGraph}
 use Rattle.port_tables.specs.Places.{Place, Wire, flag}
 use Rattle.multiportgraph.specs.HiddenNodes.{copy_incoming, copy_outgoing, Prepared, ready, full, split, split_by, split_port, split_graph, split_under}
@@ -172,7 +172,7 @@ record Divided (m : MultiPortGraph) (M : Model) (x y : model.InnerPlace) (m' : M
   copies : m'.copy_node_count ≡ m.copy_node_count + 1
   subs : m'.subport_count ≡ m.subport_count + 2
 
-two_subports : (d : Direction) (k : NodeMeta) → k.incoming ≡ copy_incoming d → k.outgoing ≡ copy_outgoing d → ports_on k d ≡ 2
+pub two_subports : (d : Direction) (k : NodeMeta) → k.incoming ≡ copy_incoming d → k.outgoing ≡ copy_outgoing d → ports_on k d ≡ 2
 two_subports Incoming k i o = i
 two_subports Outgoing k i o = o
 
@@ -254,16 +254,13 @@ module _ {m : MultiPortGraph} {M : Model} {x y : model.InnerPlace} {m' : MultiPo
           (λ q. zero_is_not_one (let a = ap (λ (w : model.InnerPlace). is_hidden m w.node) q in let b = sx.1 in cc)))
       go false e = rw e
 
-  copy_kept : (n : ℕ) → is_hidden m n ≡ true → copy_place m' n ≡ copy_place m n
-  copy_kept n h = ap (λ d. inner# n d 0) (side_kept n h)
-
   far_no_copy : (n : ℕ) → is_hidden m n ≡ true → copy_place m n ≡ y → ⊥
   far_no_copy n h q =
       zero_is_not_one (let a = f.main_marked n x h (ap M.join q ∙ f.good.join_back x y linked) in cc)
 
   copy_joined : (n : ℕ) → is_hidden m n ≡ true → M'.join (copy_place m' n) ≡ M.join (copy_place m n)
   copy_joined n h =
-      ap M'.join (copy_kept n h)
+      ap M'.join (same_copy (side_kept n h))
       ∙ s.elsewhere (copy_place m n)
       (λ q. zero_is_not_one (let a = ap (λ (w : model.InnerPlace). is_hidden m w.node) q in let b = sx.1 in cc))
       (far_no_copy n h) (hidden_not_new n h)
@@ -391,7 +388,7 @@ module _ {m : MultiPortGraph} {M : Model} {x y : model.InnerPlace} {m' : MultiPo
   mark_kept : (p : ℕ) → Marked m M p → Marked m' M' p
   mark_kept p (copy_port n h q) =
       let new = hidden_not_new n h in
-      copy_port n (s.hidden_else n new ∙ h) (ap (slot_of M'.node) (copy_kept n h) ∙ (slot_same (copy_place m n) new ∙ q))
+      copy_port n (s.hidden_else n new ∙ h) (ap (slot_of M'.node) (same_copy (side_kept n h)) ∙ (slot_same (copy_place m n) new ∙ q))
   mark_kept p (main_port_lem n z h j q) =
       main_port_lem n z (s.hidden_else n (hidden_not_new n h) ∙ h) (copy_joined n h ∙ j)
       (slot_same z (not_new z (joined_is_valid f.good (copy_place m n) z j)) ∙ q)
@@ -414,7 +411,7 @@ module _ {m : MultiPortGraph} {M : Model} {x y : model.InnerPlace} {m' : MultiPo
             ⊎_elim
             (λ q. ap (λ k. is_split m' (slot_of M'.node (copy_place m' k))) q
             ∙ (ap (λ d. is_split m' (slot_of M'.node (inner# c d 0))) side_new ∙ s.copy_marked))
-            (λ q. ap (is_split m') (ap (slot_of M'.node) (copy_kept n (hidden_before n q h)) ∙ slot_same (copy_place m n) q)
+            (λ q. ap (is_split m') (ap (slot_of M'.node) (same_copy (side_kept n (hidden_before n q h))) ∙ slot_same (copy_place m n) q)
             ∙ split_more _ (f.copy_marked n (hidden_before n q h)))
             (cases_eq n c);
         main_marked = main_after;
@@ -493,14 +490,7 @@ module _ {m : MultiPortGraph} {M : Model} {x y : model.InnerPlace} {m' : MultiPo
       other : (h.x ≡ x → ⊥) → (h.x ≡ y → ⊥) → WireIn m' M' w
       other a b =
           let new = not_new h.x h.end.valid in
-          record {
-            x = h.x;
-            y = h.y;
-            joined = s.elsewhere h.x a b new ∙ h.joined;
-            outgoing = h.outgoing;
-            end = end_kept h.x h.end a;
-            is = h.is ∙ same_wire (sym (outer_kept h.x new)) (sym (outer_kept h.y (not_new h.y (joined_is_valid f.good h.x h.y h.joined))));
-          }
+          wire_again h (s.elsewhere h.x a b new ∙ h.joined) (end_kept h.x h.end a) (outer_kept h.x new) (outer_kept h.y (not_new h.y (joined_is_valid f.good h.x h.y h.joined)))
 
   wire_back : (w : Wire) → WireIn m' M' w → WireIn m M w
   wire_back w h =
@@ -547,14 +537,7 @@ module _ {m : MultiPortGraph} {M : Model} {x y : model.InnerPlace} {m' : MultiPo
       other : (h.x ≡ x → ⊥) → (h.x ≡ y → ⊥) → (h.x.node ≡ c → ⊥) → WireIn m M w
       other a b n =
           let j : M.join h.x ≡ to h.y = sym (s.elsewhere h.x a b n) ∙ h.joined in
-          record {
-            x = h.x;
-            y = h.y;
-            joined = j;
-            outgoing = h.outgoing;
-            end = end_back h.x h.end a n;
-            is = h.is ∙ same_wire (outer_kept h.x n) (outer_kept h.y (not_new h.y (joined_is_valid f.good h.x h.y j)));
-          }
+          wire_again h j (end_back h.x h.end a n) (sym (outer_kept h.x n)) (sym (outer_kept h.y (not_new h.y (joined_is_valid f.good h.x h.y j))))
 
   split_blocks : SameBlocks m M m' M'
   split_blocks = (
@@ -846,8 +829,7 @@ module _ {m : MultiPortGraph} {M : Model} (f : Fine m M) (x y : model.InnerPlace
 
   c_below : c# < node_slots
   c_below =
-      let a = good₁.node_used c# new# is_new in
-      let b = good₁.nodes_fit in
+      let a = node_below good₁ c# new# is_new in
       omega arith
 
   x_below : slot_of M.node x < length m.multiport

@@ -1,108 +1,97 @@
 -- Steps of the walk over the subports of a block, over plain values.
 use Rattle.std.proofs.Math.Path.{◌≡◌, refl, sym, ap}
-use Rattle.std.proofs.Common.{◌∙◌, ltb-true, ltb-false, leb-true, leb-false}
-use Rattle.std.specs.Prelude.{Bool, false, leb, ltb, Option, Some, None, Ok}
+use Rattle.std.proofs.Common.{◌∙◌}
+use Rattle.std.specs.Prelude.{Bool, false, leb, Option, Some, None, Ok}
 use Rattle.std.proofs.Math.Bool.{true, cond}
-use mathlib.Core.List.{List, [], ◌∷◌, ◌++◌, map}
-use Prim.Native.Nat.{ℕ, zero, suc, ◌+◌, ◌-◌, ◌≤◌, ◌<◌, min}
+use mathlib.Core.List.{List, [], ◌∷◌, map}
+use Prim.Native.Nat.{ℕ, suc, ◌+◌, ◌-◌, ◌≤◌, ◌<◌, min}
 use native.Mathlib.Omega.{arith}
 use Rattle.port_tables.specs.Limits.{port_slots}
-use Rattle.port_tables.specs.Lists.{range, filter, on_first}
+use Rattle.port_tables.specs.Lists.{range, on_first}
+use Rattle.std.specs.List.{filter}
 use Rattle.portgraph.specs.Lookups.{meta_at}
 use Rattle.port_tables.specs.Entries.{ports_from, ports_to}
 use Rattle.port_tables.specs.declared.direction.Direction.{Direction}
 use Rattle.port_tables.specs.declared.sides.Sides.{Sides}
 use Rattle.port_tables.specs.declared.node_entry.NodeMeta.{NodeMeta}
 use Rattle.multiportgraph.specs.Wires.{held_at}
-use Rattle.multiportgraph.specs.Reading.{is_hidden, is_split, seen, subports}
+use Rattle.multiportgraph.specs.Reading.{is_hidden, is_split, seen}
 use Rattle.multi_tables.specs.Forms.{Port, dead, hidden, visible, subport#}
 use Rattle.multiportgraph.specs.WellFormed.{MultiWf}
 use Rattle.multi_tables.specs.TableReads.{seen_in}
 use Rattle.multiportgraph.specs.TableReadLaws.{seen_read}
 use Rattle.multiportgraph.specs.Walks.{both_seen, subports_of, subport_beyond, step_subports}
-use Rattle.multiportgraph.specs.ScanLaws.{subports_seen, subports_at, subports_from_to, subport_past, subports_on, subports_end, subports_of_split, subports_of_plain, split_subports_rest, plain_subports_rest, block_not_hidden, row_fits, block_subports_all, block_subports_rest, block_subports_none}
+use Rattle.multiportgraph.specs.ScanLaws.{subports_seen, subports_at, subports_from_to, subport_past, subport_at_port, subports_in_row, subports_of_split, subports_of_plain, offsets_past, block_not_hidden, row_fits, row_past, row_end}
 use Rattle.multiportgraph.specs.LookupSteps.{block_at, meta_is}
-use Rattle.multi_tables.specs.Scans.{span_count}
+use Rattle.multi_tables.specs.Scans.{span_count, first_found}
 use Rattle.multiportgraph.specs.ScanReads.{count_split, count_plain}
-use Rattle.multiportgraph.specs.WalkScans.{held_in, first_subport, port_subports_by, port_subports_in, subports_rest, subports_beyond}
+use Rattle.multiportgraph.specs.WalkScans.{held_in, port_subports_by, port_subports_in, subports_rest, subports_beyond}
 use Rattle.multiportgraph.specs.WalkSteps.{both_found}
 use Rattle.multiportgraph.specs.declared.multiportgraph.MultiPortGraph.{MultiPortGraph}
 use Rattle.multi_tables.specs.declared.answers.SubportIndex.{SubportIndex}
 use Rattle.multiportgraph.specs.declared.iter.NodeSubports.{NodeSubports}
 use Rattle.multiportgraph.specs.CodeForms.{block_found}
 use Rattle.multi_tables.specs.declared.scans.Held.{Held}
-
--- The first of two lists, one after the other.
-
-first_here : (a b : List SubportIndex) (s : SubportIndex) → first_subport a ≡ Some s → first_subport (a ++ b) ≡ Some s
-unfolding first_subport on_first
-first_here [] b s e = let z : ◌≡◌ {A = ℕ} 0 1 = cc in absurd (omega arith)
-first_here (x ∷ a) b s e = e
-
-first_later : (a b : List SubportIndex) → first_subport a ≡ None → first_subport (a ++ b) ≡ first_subport b
-unfolding first_subport on_first
-first_later [] b e = refl
-first_later (x ∷ a) b e = let z : ◌≡◌ {A = ℕ} 0 1 = cc in absurd (omega arith)
-
-one_less : (o end : ℕ) → o < end → end - o ≡ suc (end - (o + 1))
-one_less o end h = omega arith
+use Rattle.port_tables.specs.TableSteps.{left_one}
+use Rattle.multi_tables.specs.ScanSteps.{first_here, first_later}
+use Rattle.port_tables.specs.Listing.{filter_map}
 
 module _ (marks : List Bool) (links owners : List ℕ) (flags : List Bool) where
   module _ (p o : ℕ) where
     -- One port.
 
-    subports_by : (s : Port) → seen_in owners flags p ≡ s → first_subport (port_subports_by marks links owners p o s) ≡ first_subport (port_subports_in marks links owners flags p o)
+    subports_by : (s : Port) → seen_in owners flags p ≡ s → first_found (port_subports_by marks links owners p o s) ≡ first_found (port_subports_in marks links owners flags p o)
     unfolding port_subports_in
-    subports_by s e = ap (λ (x : Port). first_subport (port_subports_by marks links owners p o x)) (sym e)
+    subports_by s e = ap (λ (x : Port). first_found (port_subports_by marks links owners p o x)) (sym e)
 
-    pub subports_unseen : (s : Port) → seen_in owners flags p ≡ s → port_subports_by marks links owners p o s ≡ [] → None ≡ first_subport (port_subports_in marks links owners flags p o)
-    unfolding first_subport on_first
-    subports_unseen s e f = ap first_subport (sym f) ∙ subports_by s e
+    pub subports_unseen : (s : Port) → seen_in owners flags p ≡ s → port_subports_by marks links owners p o s ≡ [] → None ≡ first_found (port_subports_in marks links owners flags p o)
+    unfolding first_found
+    subports_unseen s e f = ap first_found (sym f) ∙ subports_by s e
 
     module _ (n : ℕ) (d : Direction) (c : ℕ) (e : seen_in owners flags p ≡ visible n d) (g : c ≡ span_count marks links owners p d) where
-      pub subport_there : o < c → Some (subport# p o) ≡ first_subport (port_subports_in marks links owners flags p o)
-      unfolding first_subport on_first range
+      pub subport_there : o < c → Some (subport# p o) ≡ first_found (port_subports_in marks links owners flags p o)
+      unfolding first_found range
       subport_there h =
           let l : span_count marks links owners p d - o ≡ suc (c - (o + 1)) = omega arith in
-          let f : Some (subport# p o) ≡ first_subport (map (subport# p) (range o (span_count marks links owners p d - o))) = rw l in
+          let f : Some (subport# p o) ≡ first_found (map (subport# p) (range o (span_count marks links owners p d - o))) = rw l in
           f ∙ subports_by (visible n d) e
 
-      pub subport_past_lem : c ≤ o → None ≡ first_subport (port_subports_in marks links owners flags p o)
-      unfolding first_subport on_first range
+      pub subport_past_lem : c ≤ o → None ≡ first_found (port_subports_in marks links owners flags p o)
+      unfolding first_found range
       subport_past_lem h =
           let l : span_count marks links owners p d - o ≡ 0 = omega arith in
-          let f : None ≡ first_subport (map (subport# p) (range o (span_count marks links owners p d - o))) = rw l in
+          let f : None ≡ first_found (map (subport# p) (range o (span_count marks links owners p d - o))) = rw l in
           f ∙ subports_by (visible n d) e
 
     -- A row of ports.
 
     module _ (stop : ℕ) where
-      pub subports_turn : (r : Option SubportIndex) → p < stop → r ≡ first_subport (port_subports_in marks links owners flags p o) → r ≡ None
-          → first_subport (subports_rest marks links owners flags (p + 1) 0 (stop - (p + 1))) ≡ first_subport (subports_rest marks links owners flags p o (stop - p))
+      pub subports_turn : (r : Option SubportIndex) → p < stop → r ≡ first_found (port_subports_in marks links owners flags p o) → r ≡ None
+          → first_found (subports_rest marks links owners flags (p + 1) 0 (stop - (p + 1))) ≡ first_found (subports_rest marks links owners flags p o (stop - p))
       unfolding subports_rest
       subports_turn r h e n =
           let a : p + 1 ≡ suc p = omega arith in
-          rw (one_less p stop h, a) (sym (first_later _ _ (sym e ∙ n)))
+          rw (left_one p stop h, a) (sym (first_later _ _ (sym e ∙ n)))
 
-      pub subports_found : (r : Option SubportIndex) (s : SubportIndex) → p < stop → r ≡ first_subport (port_subports_in marks links owners flags p o) → r ≡ Some s
-          → r ≡ first_subport (subports_rest marks links owners flags p o (stop - p))
+      pub subports_found : (r : Option SubportIndex) (s : SubportIndex) → p < stop → r ≡ first_found (port_subports_in marks links owners flags p o) → r ≡ Some s
+          → r ≡ first_found (subports_rest marks links owners flags p o (stop - p))
       unfolding subports_rest
-      subports_found r s h e n = rw (one_less p stop h) (n ∙ sym (first_here _ _ s (sym e ∙ n)))
+      subports_found r s h e n = rw (left_one p stop h) (n ∙ sym (first_here _ _ s (sym e ∙ n)))
 
-      pub subports_done : stop ≤ p → None ≡ first_subport (subports_rest marks links owners flags p o (stop - p))
-      unfolding subports_rest first_subport on_first
+      pub subports_done : stop ≤ p → None ≡ first_found (subports_rest marks links owners flags p o (stop - p))
+      unfolding subports_rest first_found
       subports_done h = let a : stop - p ≡ 0 = omega arith in rw a
 
   -- Where a walk goes on.
 
   pub beyond_start : (from end held o : ℕ) (s : ℕ × ℕ) {r : Option SubportIndex} → s ≡ cond (leb held from) (from, 0) (held - 1, o + 1)
-      → r ≡ first_subport (subports_rest marks links owners flags s.0 s.1 (min end port_slots - s.0)) → r ≡ first_subport (subports_beyond marks links owners flags from end held o)
+      → r ≡ first_found (subports_rest marks links owners flags s.0 s.1 (min end port_slots - s.0)) → r ≡ first_found (subports_beyond marks links owners flags from end held o)
   unfolding subports_beyond
   beyond_start from end held o s e f = f ∙ go (leb held from) s e
     where
       go : (b : Bool) (s : ℕ × ℕ) → s ≡ cond b (from, 0) (held - 1, o + 1)
-          → first_subport (subports_rest marks links owners flags s.0 s.1 (min end port_slots - s.0))
-          ≡ first_subport (cond b (subports_rest marks links owners flags from 0 (min end port_slots - from)) (subports_rest marks links owners flags (held - 1) (suc o) (min end port_slots - (held - 1))))
+          → first_found (subports_rest marks links owners flags s.0 s.1 (min end port_slots - s.0))
+          ≡ first_found (cond b (subports_rest marks links owners flags from 0 (min end port_slots - from)) (subports_rest marks links owners flags (held - 1) (suc o) (min end port_slots - (held - 1))))
       go true s e = rw e
       go false s e = let a : o + 1 ≡ suc o = omega arith in rw (e, a)
 
@@ -125,125 +114,57 @@ module _ (m : MultiPortGraph) (w : MultiWf m) where
     unfolding port_subports_in
     table_seen o = rw (seen_read w.fine p, s)
 
-    whole_split : is_split m p ≡ true → table_port p 0 ≡ subports_at m p
-    whole_split t =
-        let c = count_split m w p n d s t in
-        let e : count p d - 0 ≡ subports m p d = omega arith in
-        table_seen 0 ∙ ap (λ (x : ℕ). map (subport# p) (range 0 x)) e ∙ sym (subports_of_split m p n d s t)
-
-    whole_plain : is_split m p ≡ false → table_port p 0 ≡ subports_at m p
+    by_offset : subports_at m p ≡ map (subport# p) (range 0 (count p d))
     unfolding range
-    whole_plain t =
-        let c = count_plain m w p n d s t in
-        let e : count p d - 0 ≡ 1 = omega arith in
-        table_seen 0 ∙ ap (λ (x : ℕ). map (subport# p) (range 0 x)) e ∙ sym (subports_of_plain m p n d s t)
+    by_offset = go (is_split m p) refl
+      where
+        go : (b : Bool) → is_split m p ≡ b → subports_at m p ≡ map (subport# p) (range 0 (count p d))
+        go true t = subports_of_split m p n d s t ∙ ap (λ (c : ℕ). map (subport# p) (range 0 c)) (sym (count_split m w p n d s t))
+        go false t = subports_of_plain m p n d s t ∙ ap (λ (c : ℕ). map (subport# p) (range 0 c)) (sym (count_plain m w p n d s t))
 
-    past_split : (o : ℕ) → is_split m p ≡ true → table_port p (suc o) ≡ filter (subport_past o) (subports_at m p)
-    past_split o t =
-        let c = count_split m w p n d s t in
-        let e : count p d - suc o ≡ subports m p d - suc o = omega arith in
-        table_seen (suc o) ∙ ap (λ (x : ℕ). map (subport# p) (range (suc o) x)) e ∙ sym (split_subports_rest m p n d s o t)
+    seen_whole : table_port p 0 ≡ subports_at m p
+    seen_whole = let e : count p d - 0 ≡ count p d = omega arith in table_seen 0 ∙ ap (λ (c : ℕ). map (subport# p) (range 0 c)) e ∙ sym by_offset
 
-    past_plain : (o : ℕ) → is_split m p ≡ false → table_port p (suc o) ≡ filter (subport_past o) (subports_at m p)
-    unfolding range
-    past_plain o t =
-        let c = count_plain m w p n d s t in
-        let e : count p d - suc o ≡ 0 = omega arith in
-        table_seen (suc o) ∙ ap (λ (x : ℕ). map (subport# p) (range (suc o) x)) e ∙ sym (plain_subports_rest m p n d s o t)
+    seen_past : (o : ℕ) → table_port p (suc o) ≡ filter (subport_past o) (subports_at m p)
+    seen_past o =
+        table_seen (suc o)
+        ∙ sym (ap (filter (subport_past o)) by_offset ∙ filter_map (subport# p) (subport_past o) (range 0 (count p d)) ∙ ap (map (subport# p)) (offsets_past o (count p d)))
 
   port_read : (p : ℕ) → table_port p 0 ≡ subports_at m p
-  port_read p = go (seen m p) refl (is_split m p) refl
+  port_read p = go (seen m p) refl
     where
-      go : (s : Port) → seen m p ≡ s → (b : Bool) → is_split m p ≡ b → table_port p 0 ≡ subports_at m p
-      go dead e b t = let r = subports_unseen_read p 0 dead e refl refl in r.0 ∙ sym r.1
-      go hidden e b t = let r = subports_unseen_read p 0 hidden e refl refl in r.0 ∙ sym r.1
-      go (visible n d) e true t = whole_split p n d e t
-      go (visible n d) e false t = whole_plain p n d e t
-
-  none_past : (o : ℕ) → filter (subport_past o) [] ≡ []
-  unfolding filter
-  none_past o = refl
+      go : (s : Port) → seen m p ≡ s → table_port p 0 ≡ subports_at m p
+      go dead e = let r = subports_unseen_read p 0 dead e refl refl in r.0 ∙ sym r.1
+      go hidden e = let r = subports_unseen_read p 0 hidden e refl refl in r.0 ∙ sym r.1
+      go (visible n d) e = seen_whole p n d e
 
   port_past : (p o : ℕ) → table_port p (suc o) ≡ filter (subport_past o) (subports_at m p)
-  port_past p o = go (seen m p) refl (is_split m p) refl
+  port_past p o = go (seen m p) refl
     where
-      go : (s : Port) → seen m p ≡ s → (b : Bool) → is_split m p ≡ b → table_port p (suc o) ≡ filter (subport_past o) (subports_at m p)
-      go dead e b t = let r = subports_unseen_read p (suc o) dead e refl refl in r.0 ∙ sym (ap (filter (subport_past o)) r.1 ∙ none_past o)
-      go hidden e b t = let r = subports_unseen_read p (suc o) hidden e refl refl in r.0 ∙ sym (ap (filter (subport_past o)) r.1 ∙ none_past o)
-      go (visible n d) e true t = past_split p n d e o t
-      go (visible n d) e false t = past_plain p n d e o t
+      go : (s : Port) → seen m p ≡ s → table_port p (suc o) ≡ filter (subport_past o) (subports_at m p)
+      go dead e = let r = subports_unseen_read p (suc o) dead e refl refl in r.0 ∙ sym (ap (filter (subport_past o)) r.1)
+      go hidden e = let r = subports_unseen_read p (suc o) hidden e refl refl in r.0 ∙ sym (ap (filter (subport_past o)) r.1)
+      go (visible n d) e = seen_past p n d e o
 
-  abbrev table_row : ℕ → ℕ → ℕ → List SubportIndex
-  table_row p o c = subports_rest m.multiport m.graph.port_link m.graph.port_meta m.copy_node p o c
-
-  row_read : (c p : ℕ) → table_row p 0 c ≡ subports_from_to m p c
-  unfolding subports_rest
-  row_read zero p = sym (subports_end m p)
-  row_read (suc c) p =
-      let a = port_read p in
-      let r = row_read c (suc p) in
-      (λ i. a i ++ r i) ∙ sym (subports_on m p c)
-
-  module _ (n : ℕ) (k : NodeMeta) (open_node : is_hidden m n ≡ false) (meta : meta_at m.graph n ≡ Some k) (sides : Sides) (held o : ℕ) where
-    abbrev scanned : List SubportIndex
-    scanned = subports_beyond m.multiport m.graph.port_link m.graph.port_meta m.copy_node (ports_from k sides) (ports_to k sides) held o
-
-    fits : min (ports_to k sides) port_slots ≡ ports_to k sides
-    fits = let r = row_fits w n k open_node meta sides in omega arith
-
-    scanned_all : leb held (ports_from k sides) ≡ true → scanned ≡ table_row (ports_from k sides) 0 (ports_to k sides - ports_from k sides)
-    unfolding subports_beyond
-    scanned_all e = rw (e, fits)
-
-    scanned_rest : leb held (ports_from k sides) ≡ false → scanned ≡ table_row (held - 1) (suc o) (ports_to k sides - (held - 1))
-    unfolding subports_beyond
-    scanned_rest e = rw (e, fits)
-
-    rest_within : (p : ℕ) → p < ports_to k sides → table_row p (suc o) (ports_to k sides - p) ≡ filter (subport_past o) (subports_at m p) ++ subports_from_to m (suc p) (ports_to k sides - suc p)
-    unfolding subports_rest
-    rest_within p l =
-        let e : ports_to k sides - p ≡ suc (ports_to k sides - suc p) = omega arith in
-        let a = port_past p o in
-        let r = row_read (ports_to k sides - suc p) (suc p) in
-        rw e (λ i. a i ++ r i)
-
-    rest_after : (p : ℕ) → ports_to k sides ≤ p → table_row p (suc o) (ports_to k sides - p) ≡ []
-    unfolding subports_rest
-    rest_after p l = let e : ports_to k sides - p ≡ 0 = omega arith in rw e
-
-    held_is : (p : ℕ) → held ≡ suc p → filter (subport_beyond (suc p) o) (subports_of m n sides) ≡ filter (subport_beyond held o) (subports_of m n sides)
-    held_is p e = ap (λ (x : ℕ). filter (subport_beyond x o) (subports_of m n sides)) (sym e)
-
-    -- the subports of a block beyond what a cursor holds
-    subports_read : scanned ≡ filter (subport_beyond held o) (subports_of m n sides)
-    subports_read = go (leb held (ports_from k sides)) refl
-      where
-        beyond : (b : Bool) → ltb (held - 1) (ports_to k sides) ≡ b → leb held (ports_from k sides) ≡ false
-            → table_row (held - 1) (suc o) (ports_to k sides - (held - 1)) ≡ filter (subport_beyond held o) (subports_of m n sides)
-        beyond true e g =
-            let l = leb-false held (ports_from k sides) g in
-            let h = ltb-true (held - 1) (ports_to k sides) e in
-            rest_within (held - 1) h ∙ (sym (block_subports_rest w n k open_node meta sides (held - 1) o (omega arith) h) ∙ held_is (held - 1) (omega arith))
-        beyond false e g =
-            let l = leb-false held (ports_from k sides) g in
-            let h = ltb-false (held - 1) (ports_to k sides) e in
-            rest_after (held - 1) h ∙ (sym (block_subports_none w n k open_node meta sides (held - 1) o h) ∙ held_is (held - 1) (omega arith))
-
-        go : (b : Bool) → leb held (ports_from k sides) ≡ b → scanned ≡ filter (subport_beyond held o) (subports_of m n sides)
-        go true e =
-            scanned_all e ∙ row_read (ports_to k sides - ports_from k sides) (ports_from k sides)
-            ∙ sym (block_subports_all w n k open_node meta sides held o (leb-true held (ports_from k sides) e))
-        go false e = scanned_rest e ∙ beyond (ltb (held - 1) (ports_to k sides)) refl e
+  -- the subports of a block beyond what a cursor holds
+  subports_read : (n : ℕ) (k : NodeMeta) → is_hidden m n ≡ false → meta_at m.graph n ≡ Some k → (sides : Sides) (held o : ℕ)
+      → subports_beyond m.multiport m.graph.port_link m.graph.port_meta m.copy_node (ports_from k sides) (ports_to k sides) held o ≡ filter (subport_beyond held o) (subports_of m n sides)
+  unfolding subports_beyond subports_rest subports_from_to subport_beyond
+  subports_read n k open_node meta sides held o =
+      rw (row_end w n k open_node meta sides)
+      (row_past (λ (s : SubportIndex). s.port.0) (λ (s : SubportIndex). s.subport_offset) (subports_at m) (subport_at_port m) table_port port_read port_past
+      (subports_rest m.multiport m.graph.port_link m.graph.port_meta m.copy_node) (λ p i. refl) (λ p i c. refl) (ports_from k sides) (ports_to k sides) held o (row_fits w n k open_node meta sides).0)
+      ∙ ap (filter (subport_beyond held o)) (sym (subports_in_row w n k open_node meta sides))
 
 -- what was found, as a step has it
 module _ {B : Type 0} (end : B) (item : SubportIndex → B) where
-  first_item : (l : List SubportIndex) (r : Option SubportIndex) (s : SubportIndex) → r ≡ first_subport l → r ≡ Some s → item s ≡ on_first end item l
-  unfolding first_subport on_first
+  first_item : (l : List SubportIndex) (r : Option SubportIndex) (s : SubportIndex) → r ≡ first_found l → r ≡ Some s → item s ≡ on_first end item l
+  unfolding first_found on_first
   first_item [] r s e h = let z : ◌≡◌ {A = ℕ} 0 1 = cc in absurd (omega arith)
   first_item (v ∷ l) r s e h = let q : s ≡ v = cc in ap item q
 
-  first_end : (l : List SubportIndex) (r : Option SubportIndex) → r ≡ first_subport l → r ≡ None → end ≡ on_first end item l
-  unfolding first_subport on_first
+  first_end : (l : List SubportIndex) (r : Option SubportIndex) → r ≡ first_found l → r ≡ None → end ≡ on_first end item l
+  unfolding first_found on_first
   first_end [] r e h = refl
   first_end (v ∷ l) r e h = let z : ◌≡◌ {A = ℕ} 0 1 = cc in absurd (omega arith)
 
@@ -257,14 +178,14 @@ module _ (m : MultiPortGraph) (c : NodeSubports) where
 
   module _ (w : MultiWf m) (k : NodeMeta) (e : block_found m c.node.0 ≡ Ok k) (there : held_in m.graph.port_meta m.copy_node c.held.port ≡ true)
       (a b : ℕ) (r : Option SubportIndex) (ea : a ≡ ports_from k c.sides) (eb : b ≡ ports_to k c.sides)
-      (er : r ≡ first_subport (subports_beyond m.multiport m.graph.port_link m.graph.port_meta m.copy_node a b c.held.port c.held.offset)) where
-    listed : r ≡ first_subport (filter (subport_beyond c.held.port c.held.offset) (subports_of m c.node.0 c.sides))
+      (er : r ≡ first_found (subports_beyond m.multiport m.graph.port_link m.graph.port_meta m.copy_node a b c.held.port c.held.offset)) where
+    listed : r ≡ first_found (filter (subport_beyond c.held.port c.held.offset) (subports_of m c.node.0 c.sides))
     listed =
         let read = subports_read m w c.node.0 k (block_not_hidden m c.node.0 (sym (block_at m c.node.0 (Ok k) e))) (meta_is m c.node.0 k e) c.sides c.held.port c.held.offset in
         er
-        ∙ ap (λ (x : ℕ). first_subport (subports_beyond m.multiport m.graph.port_link m.graph.port_meta m.copy_node x b c.held.port c.held.offset)) ea
-        ∙ ap (λ (x : ℕ). first_subport (subports_beyond m.multiport m.graph.port_link m.graph.port_meta m.copy_node (ports_from k c.sides) x c.held.port c.held.offset)) eb
-        ∙ ap first_subport read
+        ∙ ap (λ (x : ℕ). first_found (subports_beyond m.multiport m.graph.port_link m.graph.port_meta m.copy_node x b c.held.port c.held.offset)) ea
+        ∙ ap (λ (x : ℕ). first_found (subports_beyond m.multiport m.graph.port_link m.graph.port_meta m.copy_node (ports_from k c.sides) x c.held.port c.held.offset)) eb
+        ∙ ap first_found read
 
     pub subports_item_lem : (s : SubportIndex) (h : Held) → r ≡ Some s → h ≡ held_at s → Some (s, record { node = c.node; sides = c.sides; held = h }) ≡ step_subports m c
     unfolding step_subports

@@ -229,7 +229,7 @@ module _ {m : MultiPortGraph} {M : Model} (f : Fine m M) where
   unfolding far_in
   far_is x y j = let e = link_to f.good f.holds x y (f.good.join_valid x y j) j in omega arith
 
-  flag_told : (n : ℕ) → flag_at m.copy_node node_slots n ≡ is_hidden m n
+  pub flag_told : (n : ℕ) → flag_at m.copy_node node_slots n ≡ is_hidden m n
   unfolding is_hidden
   flag_told n = flag_is m.copy_node node_slots n f.flags_long
 
@@ -415,11 +415,6 @@ module _ {m : MultiPortGraph} {M : Model} (f : Fine m M) where
         ∙ (far_is block.place c k.back
         ∙ (sym (port_of_lem f k.copy (copy_side m k.copy) 0 (copy_valid f k.copy k.is_copy))
         ∙ ap (λ (n : ℕ). port_of m.graph n (copy_side m n) 0) (sym k.copy_is ∙ ap (copy_node m) block.slot)))
-
-    pub side_read : is_split m p ≡ true → d ≡ reversed (copy_side m (copy_node m p))
-    side_read t =
-        let k = split_there t in
-        sym block.side ∙ (k.side ∙ ap (λ (n : ℕ). reversed (copy_side m n)) (sym k.copy_is ∙ ap (copy_node m) block.slot))
 
     pub end_read_off : (o : ℕ) → end_in m.multiport m.graph.port_link m.graph.port_meta p d o ≡ end_at m p d o
     unfolding end_in end_at

@@ -23,7 +23,7 @@ use Rattle.portgraph.specs.ResizeLaws.{set_same, set_inside}
 use Rattle.portgraph.specs.PlaceLaws.{meta_of_node}
 use Rattle.portgraph.specs.InsideHolds.{inside_holds}
 use Rattle.portgraph.specs.GoodLaws.{good_resize}
-use Rattle.portgraph.specs.GoodSlots.{same_place_lem}
+use Rattle.portgraph.specs.GoodSlots.{same_place_lem, ports_end, node_below}
 use Rattle.port_tables.specs.declared.direction.Direction.{Direction}
 use Rattle.port_tables.specs.declared.direction.Direction.TheVariants.{Incoming, Outgoing}
 use Rattle.port_tables.specs.declared.node_entry.NodeMeta.{NodeMeta}
@@ -33,11 +33,11 @@ use Rattle.multiportgraph.specs.Reading.{far_port, has_link, port_of, is_hidden,
 use Rattle.multi_tables.specs.Forms.{Port, dead, hidden, visible}
 use Rattle.multiportgraph.specs.WellFormed.{inner#, copy_place, Fine, Seen, outer, IsEnd, WireIn, SameBlocks, SameWires, subports_of_slot}
 use Rattle.multiportgraph.specs.Ends.{BlockPort, Hangs, port_of_lem, count_of_lem, linked_is, unlinked_is, far_of, block_seen, seen_block, seen_still, end_side, ends_join_ends, hangs, one_copy, split_has_copy, unsplit_is_end, outer_of_block, wire_at}
-use Rattle.multiportgraph.specs.HiddenStays.{same_wire, true_not_false, end_kept, outer_kept, slot_alike, split_below}
+use Rattle.multiportgraph.specs.HiddenStays.{same_copy, same_wire, true_not_false, end_kept, outer_kept, slot_alike, split_below}
 use Rattle.multi_tables.specs.MarkLaws.{lay_same}
-use Rattle.multiportgraph.specs.LinkCutLaws.{Joined, join_ends, to_same, nowhere_not_to, touches_neither}
+use Rattle.multiportgraph.specs.LinkCutLaws.{Joined, join_ends, touches_neither}
 use Rattle.multiportgraph.specs.CopyLaws.{port_at, CopyGone, copy_goes, copy_frame, copy_alike, hidden_other, end_elsewhere, unsplit_split}
-use Rattle.multiportgraph.specs.RecountLaws.{SomeRecount, set_recounts, counted, copy_place_same, same_wires, recount_ends, recount_fine, recount_blocks, reversed_twice, both_sides}
+use Rattle.multiportgraph.specs.RecountLaws.{SomeRecount, set_recounts, counted, same_wires, recount_ends, recount_fine, recount_blocks, reversed_twice, both_sides}
 use Rattle.multiportgraph.specs.declared.multiportgraph.MultiPortGraph.{MultiPortGraph}
 use Rattle.multiportgraph.specs.declared.multiportgraph.PortTidied.{PortTidied}
 use Rattle.port_tables.specs.Places.{Wire, touches, wire_of_sides}
@@ -51,6 +51,7 @@ use Rattle.multiportgraph.specs.TableReadLaws.{far_is}
 use Rattle.multiportgraph.specs.GrowLaws.{slot_x, mark_moves}
 use Rattle.multiportgraph.specs.Tidy.{linked_up_to, subports_left, left_incoming, left_outgoing, resized_within, drop_subports, link_directly, tidied}
 use Rattle.multi_tables.specs.declared.answers.Refusal.{Refusal}
+use Rattle.portgraph.specs.Joins.{to_same, nowhere_not_to}
 
 -- What is left.
 
@@ -234,8 +235,7 @@ module _ {m : MultiPortGraph} {M : Model} (f : Fine m M) (x : model.InnerPlace) 
   -- as many subports less as went
   subs_left_lem : subs_left + ports_on k x.side ≡ m.subport_count + n
   subs_left_lem =
-      let used = f.good.node_used h.copy k here in
-      let fit = f.good.nodes_fit in
+      let used = node_below f.good h.copy k here in
       let t = total_has node_slots h.copy (subports_of_slot m M) (omega arith) in
       let a : subports_of_slot m M h.copy ≡ ports_of (live k) - 1 = ap (λ (b : Bool). cond b (ports_of (M.node h.copy) - 1) 0) h.is_copy ∙ ap (λ (s : Slots). ports_of s - 1) here in
       let s = f.subs in
@@ -265,7 +265,7 @@ module _ {m : MultiPortGraph} {M : Model} (f : Fine m M) (x : model.InnerPlace) 
         blocks = recount_blocks f x h r left o none subs_left p;
         wires = same_wires f t;
         is_copy = t.hid h.copy ∙ h.is_copy;
-        from = ap s.model'.join (copy_place_same f t h.copy h.is_copy) ∙ (t.joins _ ∙ h.from);
+        from = ap s.model'.join (same_copy (t.sides h.copy h.is_copy)) ∙ (t.joins _ ∙ h.from);
         count = ap (λ (v : Slots). count_of v x.side) r.there ∙ l.0;
         joins = t.joins;
         linked = t.linked;
@@ -513,9 +513,7 @@ module _ {m : MultiPortGraph} {M : Model} (f : Fine m M) where
   same_recount : (n : ℕ) (k : NodeMeta) → M.node n ≡ live k → recounted m n m.graph ≡ m
   unfolding recounted
   same_recount n k e =
-      let a = f.good.ports_in_block n k e in
-      let b = f.good.block_ends n k e in
-      let c = f.good.ports_fit in
+      let a = ports_end f.good n k e in
       let l = f.marks_long in
       rw (meta_of_node f.good f.holds n k e) (ap (with_marks m) (lay_same m.multiport k (omega arith)))
 

@@ -8,7 +8,8 @@ use Prim.Native.Nat.{ℕ, zero, suc, ◌+◌, ◌-◌, ◌≤◌}
 use native.Mathlib.Omega.{arith}
 use Rattle.std.proofs.Math.ListN.{set}
 use Rattle.port_tables.specs.Limits.{port_slots}
-use Rattle.port_tables.specs.Lists.{range, filter, on_last}
+use Rattle.port_tables.specs.Lists.{range, on_last}
+use Rattle.std.specs.List.{filter}
 use Rattle.multiportgraph.specs.RangeSearches.{top_passed, top_found}
 use Rattle.port_tables.specs.Tables.{at}
 use Rattle.portgraph.specs.Lookups.{num_ports}
@@ -268,7 +269,7 @@ module _ (t : List ℕ) (first : ℕ) where
   after o = option_map_or (λ k. k + 1) o 0
 
   row_left : (n : ℕ) → linked_from t first n ≡ after (on_last None Some (filter holds_link (range 0 n)))
-  unfolding linked_from on_last filter range
+  unfolding linked_from on_last range
   row_left zero = refl
   row_left (suc n) = go (eqb (at t (first + n)) 0) refl (row_left n)
     where

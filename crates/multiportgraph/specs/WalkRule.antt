@@ -10,11 +10,12 @@ use Prim.Native.Nat.{ℕ, zero, suc, ◌-◌, ◌≤◌, ◌<◌}
 use native.Mathlib.Omega.{arith}
 use borrow.Author.Tests.{lt-ltb, le-ltb, eq-eqb, ne_eqb}
 use Rattle.port_tables.specs.Limits.{node_slots, port_slots}
-use Rattle.port_tables.specs.Lists.{range, filter, Member, Once, Rising}
+use Rattle.port_tables.specs.Lists.{range, Member, Once, Rising}
+use Rattle.std.specs.List.{filter}
 use Rattle.portgraph.specs.Lookups.{num_ports, contains_node, is_some, meta_at}
 use Rattle.portgraph.specs.Model as model
 use Rattle.portgraph.specs.Model.{Model, Far, nowhere, to, Valid, slot_of, count_of}
-use Rattle.portgraph.specs.GoodSlots.{zero_is_not_one, slot_in_block, slot_in_range, slots_apart}
+use Rattle.portgraph.specs.GoodSlots.{zero_is_not_one, slot_in_block, slot_in_range, slots_apart, node_below}
 use Rattle.portgraph.specs.PlaceLaws.{port_link_to, port_link_none, meta_of_node}
 use Rattle.port_tables.specs.declared.direction.Direction.{Direction}
 use Rattle.port_tables.specs.declared.direction.Direction.TheVariants.{Outgoing}
@@ -22,7 +23,7 @@ use Rattle.multiportgraph.specs.Reading.{owner_of, port_of, is_hidden, is_split,
 use Rattle.multi_tables.specs.Forms.{visible, End, inner, lacking, subport#, wire_to}
 use Rattle.multiportgraph.specs.Wires.{is_block, blocks, ports_of_side, subports_of_port, subports_of_side, wire_of, side_links, all_wires, is_beyond, first_item, wires_beyond, step_wires, start_wires, Walked, walked_on, walk_by, walk_wires, place_of, wire_places, long_walk, walked, wires_walked, held_at}
 use Rattle.multiportgraph.specs.WellFormed.{inner#, copy_place, Fine, Seen, lift, outer, IsEnd, WireIn}
-use Rattle.port_tables.specs.Listing.{Apart, member_right, member_flat_map, flat_map_member, member_map, map_member, length_map, member_filter, filter_member, member_range, range_member, in_wires, wire_member, filter_flat_map, flat_map_beyond, filter_rest, rising_by_items, rising_filter, rising_flat_map, rising_map, range_rises, apart_below, rising_once}
+use Rattle.port_tables.specs.Listing.{Apart, member_right, member_flat_map, flat_map_member, member_map, map_member, length_map, member_filter, filter_member, member_range, range_member, filter_flat_map, flat_map_beyond, filter_rest, rising_by_items, rising_filter, rising_flat_map, rising_map, range_rises, apart_below, rising_once, numbers_apart}
 use Rattle.multiportgraph.specs.Ends.{Hangs, ends_join_ends, place_of_sub, subport_of_lem, main_side, owner_of_lem, port_of_lem, count_of_lem, seen_block, main_seen, end_side, split_has_copy, one_copy, outer_of_block, unsplit_is_end}
 use Rattle.multiportgraph.specs.declared.multiportgraph.MultiPortGraph.{MultiPortGraph}
 use Rattle.multi_tables.specs.declared.answers.SubportIndex.{SubportIndex}
@@ -188,6 +189,16 @@ end_number lacking = 0
 by_outgoing : (P : model.InnerPlace → Type 0) → ((n i : ℕ) → P (inner# n Outgoing i)) → (x : model.InnerPlace) → x.side ≡ Outgoing → P x
 by_outgoing P h x e = subst (λ (d : Direction). P (inner# x.node d x.pos)) (sym e) (h x.node x.pos)
 
+pub blocks_rise : (m : MultiPortGraph) → Rising ◌<◌ (blocks m)
+unfolding blocks
+blocks_rise m = rising_filter ◌<◌ (is_block m) (range 0 node_slots) (range_rises 0 node_slots)
+
+pub blocks_are_few : (m : MultiPortGraph) → length (blocks m) ≤ node_slots
+unfolding blocks
+blocks_are_few m =
+    apart_below node_slots (blocks m) (numbers_apart (blocks m) (blocks_rise m))
+    (λ n i. let k = member_range n 0 node_slots (member_filter (is_block m) n (range 0 node_slots) i).0 in omega arith)
+
 module _ {m : MultiPortGraph} {M : Model} (f : Fine m M) where
   -- Blocks.
 
@@ -203,8 +214,7 @@ module _ {m : MultiPortGraph} {M : Model} (f : Fine m M) where
   unfolding blocks is_block
   block_listed x s =
       let r = slot_in_block f.good x s.0 in
-      let u = f.good.node_used x.node r.0 r.1 in
-      let k = f.good.nodes_fit in
+      let u = node_below f.good x.node r.0 r.1 in
       let t : is_some (meta_at m.graph x.node) ≡ true = rw (meta_of_node f.good f.holds x.node r.0 r.1) refl in
       filter_member (is_block m) x.node (range 0 node_slots) (range_member x.node 0 node_slots (omega arith) (omega arith)) (rw s.1 t)
 
@@ -426,7 +436,7 @@ module _ {m : MultiPortGraph} {M : Model} (f : Fine m M) where
 
   pub listed_is_wire : (w : Wire) → Member w (map (wire_places m) (all_wires m)) → WireIn m M w
   listed_is_wire w i =
-      let g = member_map (wire_places m) w (all_wires m) (wire_member w (map (wire_places m) (all_wires m)) i) in
+      let g = member_map (wire_places m) w (all_wires m) i in
       let r = wire_is g.0 g.1 in
       let l = r.2 in
       record {
@@ -442,7 +452,7 @@ module _ {m : MultiPortGraph} {M : Model} (f : Fine m M) where
   wire_is_listed w h =
       let r = join_listed h.x h.y h.outgoing h.end h.joined in
       let e : wire_places m r.0 ≡ w = r.2 ∙ sym h.is in
-      in_wires w (map (wire_places m) (all_wires m)) (subst (λ (v : Wire). Member v (map (wire_places m) (all_wires m))) e (map_member (wire_places m) r.0 (all_wires m) r.1))
+      subst (λ (v : Wire). Member v (map (wire_places m) (all_wires m))) e (map_member (wire_places m) r.0 (all_wires m) r.1)
 
   -- The listing ascends.
 
@@ -475,14 +485,10 @@ module _ {m : MultiPortGraph} {M : Model} (f : Fine m M) where
       rising_flat_map (Ahead m) (Before m) (wire_of m Outgoing) (subports_of_side m n Outgoing) (side_subports_rise n) (λ s i. wire_rises (Before m) m Outgoing s)
       (λ s t v w i j l h k. rw (wire_stands m Outgoing s v h, wire_stands m Outgoing t w k) l)
 
-  blocks_rise : Rising ◌<◌ (blocks m)
-  unfolding blocks
-  blocks_rise = rising_filter ◌<◌ (is_block m) (range 0 node_slots) (range_rises 0 node_slots)
-
   wires_rise : Rising (Before m) (all_wires m)
   unfolding all_wires
   wires_rise =
-      rising_flat_map ◌<◌ (Before m) (side_links m Outgoing) (blocks m) blocks_rise (λ n i. side_rises n)
+      rising_flat_map ◌<◌ (Before m) (side_links m Outgoing) (blocks m) (blocks_rise m) (λ n i. side_rises n)
       (λ n k v w i j l a b.
       let c = owner_of_wire n v (side_wire n i v a) in
       let d = owner_of_wire k w (side_wire k j w b) in
@@ -522,7 +528,7 @@ module _ {m : MultiPortGraph} {M : Model} (f : Fine m M) where
   beyond_is n i p o =
       sym
       (filter_flat_map (is_after m n p o) (side_links m Outgoing) (blocks m)
-      ∙ flat_map_beyond (side_links m Outgoing) n (is_after m n p o) (is_beyond p o) (blocks m) blocks_rise i
+      ∙ flat_map_beyond (side_links m Outgoing) n (is_after m n p o) (is_beyond p o) (blocks m) (blocks_rise m) i
       (λ k j l v h.
       let e = owner_of_wire k v (side_wire k j v h) in
       rw (ne_eqb (owner_of m.graph v.from.port.0) n (λ q. omega arith), le-ltb n (owner_of m.graph v.from.port.0) (omega arith)))
@@ -632,5 +638,5 @@ pub same_wires_same_list : {m m' : MultiPortGraph} {M M' : Model} → Fine m M �
     ((w : Wire) → WireIn m M w → WireIn m' M' w) → ((w : Wire) → WireIn m' M' w → WireIn m M w) → wires_walked m ≡ wires_walked m'
 same_wires_same_list {m} {m'} f f' there back =
     rising_by_items Earlier (λ v w. lex_asym _ _ _ _ _ _) (wires_walked m) (wires_walked m') (walked_rises f) (walked_rises f')
-    (λ w i. wire_member w (wires_walked m') ((walked_is_wires f' w).1 (there w ((walked_is_wires f w).0 (in_wires w (wires_walked m) i)))))
-    (λ w i. wire_member w (wires_walked m) ((walked_is_wires f w).1 (back w ((walked_is_wires f' w).0 (in_wires w (wires_walked m') i)))))
+    (λ w i. (walked_is_wires f' w).1 (there w ((walked_is_wires f w).0 i)))
+    (λ w i. (walked_is_wires f w).1 (back w ((walked_is_wires f' w).0 i)))

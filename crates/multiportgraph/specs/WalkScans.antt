@@ -1,13 +1,15 @@
 -- What the steps of walks find, over lent tables and over the graph's listings.
-use Rattle.std.specs.Prelude.{Bool, true, false, cond, List, [], ◌++◌, map, ℕ, zero, suc, ◌-◌, min, eqb, leb, Option, Some, None}
-use Rattle.port_tables.specs.Limits.{port_slots}
-use Rattle.port_tables.specs.Lists.{range, filter, on_first, on_last}
-use Rattle.port_tables.specs.Entries.{is_node}
+use Rattle.std.specs.Prelude.{Bool, true, false, cond, List, [], ◌++◌, map, ℕ, get_or, zero, suc, ◌-◌, min, eqb, leb, Option, Some, None}
+use Rattle.port_tables.specs.Limits.{node_slots, port_slots}
+use Rattle.port_tables.specs.Lists.{range, on_last}
+use Rattle.std.specs.List.{filter}
+use Rattle.port_tables.specs.Entries.{fresh_slot, is_node}
 use Rattle.port_tables.specs.declared.direction.Direction.{Direction}
 use Rattle.port_tables.specs.declared.index.NodeIndex.{NodeIndex}
 use Rattle.port_tables.specs.declared.sides.Sides.{Sides}
 use Rattle.port_tables.specs.declared.node_entry.NodeEntry.{NodeEntry}
-use Rattle.multi_tables.specs.Forms.{Port, dead, hidden, visible, subport#}
+use Rattle.port_tables.specs.declared.node_entry.NodeSlot.{NodeSlot}
+use Rattle.multi_tables.specs.Forms.{Port, dead, hidden, visible, subport#, flag_at}
 use Rattle.multi_tables.specs.TableReads.{seen_in}
 use Rattle.multiportgraph.specs.Wires.{side_links, held_at}
 use Rattle.multiportgraph.specs.Walks.{is_seen, both_seen, by_sides, link_beyond}
@@ -50,14 +52,15 @@ left_in marks links owners flags p d front back =
 abbrev pub block_slot : NodeEntry → Bool → Bool
 block_slot e h = cond h false (is_node e)
 
+-- a node slot of lent tables holds a block
+abbrev pub block_in : List NodeSlot → List Bool → ℕ → Bool
+block_in slots flags n = block_slot (get_or slots n fresh_slot).entry (flag_at flags node_slots n)
+
 -- the ports of blocks, from one slot on and below another
 unfoldable pub ports_in : List ℕ → List Bool → ℕ → ℕ → List ℕ
 ports_in owners flags from end = filter (λ p. is_seen (seen_in owners flags p)) (range from (end - from))
 
 -- Subports.
-
-unfoldable pub first_subport : List SubportIndex → Option SubportIndex
-first_subport l = on_first None Some l
 
 -- the port of a subport that was found, or a given number
 abbrev pub subport_port : ℕ → Option SubportIndex → ℕ

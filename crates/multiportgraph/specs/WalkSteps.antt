@@ -1,20 +1,21 @@
 -- Steps of the walks over blocks, ports and a block's ports, over plain values.
 use Rattle.portgraph.specs.WalkLaws.{some_is_node}
 use Rattle.std.specs.Prelude.{◌≡◌, Bool, eqb, leb, get_or, length, Option, Some, None, Ok, Err}
-use Rattle.std.proofs.Math.Path.{refl, sym, ap}
+use Rattle.std.proofs.Math.Path.{refl, sym, ap, fun_ext}
 use Rattle.std.proofs.Common.{◌∙◌, eq-eqb, ne_eqb}
 use Rattle.std.proofs.Math.Bool.{true, false, cond}
 use mathlib.Core.List.{List, [], ◌∷◌}
 use Prim.Native.Nat.{ℕ, suc, ◌+◌, ◌-◌, ◌≤◌, ◌<◌, max}
 use native.Mathlib.Omega.{arith}
 use Rattle.port_tables.specs.Limits.{node_slots, port_slots}
-use Rattle.port_tables.specs.Lists.{range, filter, on_first, on_last}
-use Rattle.port_tables.specs.Entries.{fresh_slot, is_node, node#, port#, ports_from, ports_to}
+use Rattle.port_tables.specs.Lists.{range, on_first, on_last}
+use Rattle.std.specs.List.{filter}
+use Rattle.port_tables.specs.Entries.{is_node, node#, port#, ports_from, ports_to}
 use Rattle.portgraph.specs.Lookups.{entry_at}
 use Rattle.port_tables.specs.declared.node_entry.NodeMeta.{NodeMeta}
 use Rattle.port_tables.specs.declared.node_entry.NodeSlot.{NodeSlot}
 use Rattle.multiportgraph.specs.Reading.{is_hidden, seen}
-use Rattle.multi_tables.specs.Forms.{Port, flag_at}
+use Rattle.multi_tables.specs.Forms.{Port}
 use Rattle.multiportgraph.specs.CodeForms.{block_found}
 use Rattle.multi_tables.specs.FormSteps.{flag_is}
 use Rattle.multiportgraph.specs.WellFormed.{MultiWf}
@@ -25,7 +26,7 @@ use Rattle.multiportgraph.specs.Walks.{is_seen, held_seen, both_seen, between, n
 use Rattle.port_tables.specs.Listing.{filter_same}
 use Rattle.multiportgraph.specs.ScanLaws.{filter_swap, range_between, block_not_hidden, block_ports_rest, row_fits}
 use Rattle.multiportgraph.specs.LookupSteps.{block_at, meta_is}
-use Rattle.multiportgraph.specs.WalkScans.{held_in, block_slot, ports_in}
+use Rattle.multiportgraph.specs.WalkScans.{held_in, block_in, ports_in}
 use Rattle.multiportgraph.specs.declared.multiportgraph.MultiPortGraph.{MultiPortGraph}
 use Rattle.multi_tables.specs.declared.answers.Refusal.{Refusal}
 use Rattle.multiportgraph.specs.declared.iter.Nodes.{Nodes}
@@ -44,13 +45,6 @@ module _ (owners : List ℕ) (flags : List Bool) (held : ℕ) where
   pub held_by : (s : Port) → (held ≡ 0 → ⊥) → seen_in owners flags (held - 1) ≡ s → is_seen s ≡ held_in owners flags held
   unfolding held_in
   held_by s h e = rw (ne_eqb held 0 h, e)
-
--- the port before what is held
-pub held_next : (owners : List ℕ) (flags : List Bool) (p : ℕ) → held_in owners flags (p + 1) ≡ is_seen (seen_in owners flags p)
-unfolding held_in
-held_next owners flags p =
-    let e : p + 1 - 1 ≡ p = omega arith in
-    rw (ne_eqb (p + 1) 0 (omega arith), e)
 
 pub held_read : (m : MultiPortGraph) → MultiWf m → (held : ℕ) → held_in m.graph.port_meta m.copy_node held ≡ held_seen m held
 unfolding held_in
@@ -107,13 +101,14 @@ left_between t front back c = filter_swap (between front back) t (range 0 c) ∙
 -- Blocks.
 
 module _ (m : MultiPortGraph) where
-  -- a slot that is read holds a block
-  pub block_told : (n : ℕ) (b r : Bool) {slots : List NodeSlot} → slots ≡ m.graph.node_meta → length m.copy_node ≡ node_slots → b ≡ flag_at m.copy_node node_slots n
-      → r ≡ block_slot (get_or slots n fresh_slot).entry b → r ≡ is_block m n
+  -- the slots that hold a block
+  blocks_told : {slots : List NodeSlot} → slots ≡ m.graph.node_meta → length m.copy_node ≡ node_slots → block_in slots m.copy_node ≡ is_block m
   unfolding is_block is_hidden
-  block_told n b r s long e f =
-      f ∙ ap (λ (l : List NodeSlot). block_slot (get_or l n fresh_slot).entry b) s ∙ ap (λ (x : Bool). cond x false (is_node (entry_at m.graph n))) (e ∙ flag_is m.copy_node node_slots n long)
-      ∙ ap (cond (get_or m.copy_node n false) false) (sym (some_is_node (entry_at m.graph n)))
+  blocks_told s long =
+      ap (λ (l : List NodeSlot). block_in l m.copy_node) s
+      ∙ fun_ext (λ n.
+      ap (λ (x : Bool). cond x false (is_node (entry_at m.graph n))) (flag_is m.copy_node node_slots n long)
+      ∙ ap (cond (get_or m.copy_node n false) false) (sym (some_is_node (entry_at m.graph n))))
 
   module _ (c : Nodes) where
     pub nodes_front_gone : node_held m c.front ≡ false → None ≡ step_nodes m c
@@ -132,16 +127,18 @@ module _ (m : MultiPortGraph) where
     unfolding step_nodes_back blocks_left on_last
     back_back_gone e f = rw (e, f)
 
-    module _ (front end : ℕ) (he : node_held m c.front ≡ true) (hf : node_held m c.back ≡ true) (ef : front ≡ c.front) (ee : end ≡ end_before c.back node_slots) where
-      blocks_left_lem : filter (is_block m) (range front (end - front)) ≡ blocks_left m c
+    module _ (front end : ℕ) {slots : List NodeSlot} (s : slots ≡ m.graph.node_meta) (long : length m.copy_node ≡ node_slots)
+        (he : node_held m c.front ≡ true) (hf : node_held m c.back ≡ true) (ef : front ≡ c.front) (ee : end ≡ end_before c.back node_slots) where
+      abbrev blocks_seen : List ℕ
+      blocks_seen = filter (block_in slots m.copy_node) (range front (end - front))
+
+      blocks_left_lem : blocks_seen ≡ blocks_left m c
       unfolding blocks_left blocks
       blocks_left_lem =
-          ap (λ (x : ℕ). filter (is_block m) (range x (end - x))) ef
+          ap (λ (t : ℕ → Bool). filter t (range front (end - front))) (blocks_told s long)
+          ∙ ap (λ (x : ℕ). filter (is_block m) (range x (end - x))) ef
           ∙ ap (λ (x : ℕ). filter (is_block m) (range c.front (x - c.front))) ee
           ∙ rw (he, hf) (sym (left_between (is_block m) c.front c.back node_slots))
-
-      abbrev blocks_seen : List ℕ
-      blocks_seen = filter (is_block m) (range front (end - front))
 
       pub nodes_item : (n : ℕ) → ◌≡◌ {A = Option ℕ} (Some n) (on_first None Some blocks_seen) → Some (node# n, record { front = n + 1; back = c.back }) ≡ step_nodes m c
       unfolding step_nodes

@@ -4,7 +4,8 @@
 use Rattle.std.specs.Prelude.{Bool, true, false, cond, ℕ, suc, ◌-◌, eqb, leb, ltb, length, Option, Some, None, Result, Ok, Err}
 use mathlib.Core.List.{List, [], ◌++◌, flat_map, map}
 use Rattle.port_tables.specs.Limits.{port_slots}
-use Rattle.port_tables.specs.Lists.{on_first, on_last, range, filter}
+use Rattle.port_tables.specs.Lists.{on_first, on_last, range}
+use Rattle.std.specs.List.{filter}
 use Rattle.port_tables.specs.Entries.{same_side, node#, port#}
 use Rattle.portgraph.specs.Lookups.{contains_node}
 use Rattle.port_tables.specs.declared.index.NodeIndex.{NodeIndex}

@@ -162,6 +162,7 @@ impl MultiPortGraph {
     }
 
     // The same for a caller who reads no move list: what it gives for one that is long enough.
+    #[tactic(auto, using(portgraph::specs::Numbered::and_numbers, crate::specs::BlockSteps::set_many))]
     pub fn set_quiet_lent(
         &mut self,
         node: NodeIndex,
@@ -191,6 +192,7 @@ impl MultiPortGraph {
     }
 
     // Changes the counts of a block that is there; the hidden nodes of the ports that are dropped are listed in a lent list, before they go.
+    #[tactic(auto, using(crate::specs::BlockSteps::wf_set_is, crate::specs::BlockSteps::block_in_lem, crate::specs::BlockSteps::copies_dropped_most, crate::specs::BlockSteps::list_taken))]
     fn resize_listing(
         &mut self,
         node: NodeIndex,

@@ -89,6 +89,7 @@ impl MultiPortGraph {
 
     // What a subport is linked with, without the place: for a caller who does not read it.
     // Stays beside `subport_link`, which would seek the place.
+    #[tactic(auto, using(port_tables::specs::TableSteps::passed_on, crate::specs::CutSteps::with_end_numbers, crate::specs::NamedLaws::read_done, crate::specs::OwnTables::read_off, crate::specs::TableReadLaws::wire_unplaced))]
     pub fn subport_link_lent(&self, subport: SubportIndex) -> Result<Option<SubportIndex>, Refusal>
         requires { MultiWf self.now }
         ensures { (result ≡ unplaced (subport_link self.now subport.port.0 subport.subport_offset))
@@ -114,6 +115,7 @@ impl MultiPortGraph {
     }
 
     // The same in place; where the far end stood is not answered.
+    #[tactic(auto, using(port_tables::specs::TableSteps::passed_on, crate::specs::CutSteps::and_end_numbers, crate::specs::NamedLaws::cut_done, crate::specs::LowerSteps::end_cut_below, crate::specs::OwnTables::read_off, crate::specs::TableReadLaws::wire_unplaced))]
     pub fn cut_sub_lent(&mut self, subport: SubportIndex) -> Result<Option<SubportIndex>, Refusal>
         requires { MultiWf self.old }
         ensures { (self.new ≡ (cut_sub self.old subport.port.0 subport.subport_offset).graph)
@@ -128,7 +130,7 @@ impl MultiPortGraph {
     }
 
     // What the cut of a port answers, with the place.
-    #[tactic(auto, unfolding(crate::specs::Calls::cut_port, crate::specs::Lookups::direction_of))]
+    #[tactic(auto, unfolding(crate::specs::Calls::cut_port, crate::specs::Lookups::direction_of), using(crate::specs::TableReadLaws::place_read))]
     fn cut_answer(&self, port: PortIndex) -> Result<Option<(SubportIndex, PortPlace)>, Refusal>
         requires { MultiWf self.now }
         ensures { result ≡ (cut_port self.now port.0).answer }
@@ -195,6 +197,7 @@ impl MultiPortGraph {
     }
 
     // The same in place.
+    #[tactic(auto, using(portgraph::specs::Numbered::and_numbers, crate::specs::InputSteps::sub_joined, crate::specs::InputSteps::parts_untaken, crate::specs::OwnTables::read_off))]
     pub fn link_sub_lent(
         &mut self,
         from: SubportIndex,

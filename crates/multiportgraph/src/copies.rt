@@ -19,6 +19,7 @@ use port_tables::resize_links::Resize;
 
 impl MultiPortGraph {
     // The hidden node of a split port goes, with every link at it.
+    #[tactic(auto, using(crate::specs::CopySteps::copy_removed))]
     pub(crate) fn remove_copy(&mut self, port: u32, node: u32)
         requires { Wf self.old.graph }
         ensures { self.new ≡ remove_copy self.old port node }
@@ -47,7 +48,7 @@ impl MultiPortGraph {
 
     // `count` ports from `first` on lose their hidden nodes, the first one first. Counts from 0: the definition goes by the number of
     // ports, and a range of the ports is no plainer.
-    #[tactic(auto, unfolding(crate::specs::HiddenNodes::unsplit_range))]
+    #[tactic(auto, unfolding(crate::specs::HiddenNodes::unsplit_range), using(crate::specs::BlockSteps::unsplit_turn, crate::specs::BlockSteps::wf_unsplit_is))]
     pub(crate) fn unsplit_range(&mut self, first: u32, count: usize)
         requires { Wf self.old.graph × (first + count ≤ port_slots) }
         ensures { self.new ≡ unsplit_range self.old first count }
@@ -92,6 +93,7 @@ impl MultiPortGraph {
     // Lists the hidden nodes of `count` ports from `first` on, in order, at a list's front, and answers how many: the list is lent, so that nobody has to clear one
     // of his own.
     // The place in the list is counted by hand: only split ports take one.
+    #[tactic(auto, using(crate::specs::BlockSteps::copies_start))]
     fn copies_in(&self, list: &mut [u32], first: usize, count: usize) -> usize
         requires { (first + count ≤ port_slots) × (count ≤ length list.old) }
         ensures { (result ≡ length (copies_in self.now first count)) × (list.new ≡ sets list.old 0 (copies_in self.now first count)) × (result ≤ count) }

@@ -32,6 +32,7 @@ fn fan_out_sum(tables: WireTables<'_>, from: usize, end: usize) -> usize
 
 impl MultiPortGraph {
     // How many wires a port has, on either side; 0 for one that is not linked.
+    #[tactic(auto, using(port_tables::specs::TableSteps::with_numbers, crate::specs::FanOutSteps::fan_out_at_port, crate::specs::StartSteps::block_is, crate::specs::OwnTables::read_off))]
     pub fn port_fan_out(&self, port: PortIndex) -> Result<usize, Refusal>
         requires { MultiWf self.now }
         ensures { (result ≡ port_fan_out self.now port.0) × (count_numbers result ≡ count_numbers (port_fan_out self.now port.0)) }
@@ -44,6 +45,7 @@ impl MultiPortGraph {
     }
 
     // How many wires leave a block: the sum of the fan-outs of its outgoing ports.
+    #[tactic(auto, using(port_tables::specs::TableSteps::with_numbers, crate::specs::FanOutSteps::fan_out_refused, crate::specs::FanOutSteps::fan_out_counted, crate::specs::OwnTables::read_off, crate::specs::StartSteps::passed_told))]
     pub fn node_fan_out(&self, node: NodeIndex) -> Result<usize, Refusal>
         requires { MultiWf self.now }
         ensures { (result ≡ node_fan_out self.now node.0) × (count_numbers result ≡ count_numbers (node_fan_out self.now node.0)) }

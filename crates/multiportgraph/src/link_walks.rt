@@ -52,6 +52,7 @@ impl MultiPortGraph {
 }
 
 impl NodeLinks {
+    #[tactic(auto, using(port_tables::specs::TableSteps::with_numbers, crate::specs::LinkWalkSteps::links_none))]
     pub fn step(self, graph: &MultiPortGraph) -> Option<(SubportLink, NodeLinks)>
         requires { MultiWf graph.now }
         ensures { (result ≡ step_links graph.now self) × (node_links_values result ≡ node_links_values (step_links graph.now self)) }

@@ -77,6 +77,7 @@ impl MultiPortGraph {
     }
 
     // Both ports are live, and two. Without room for either end the graph stays as it was.
+    #[tactic(auto, using(crate::specs::NeedLaws::ready_for, crate::specs::LinkMade::both_lack))]
     fn link_both(
         &mut self,
         a: SidedPort,
@@ -100,6 +101,7 @@ impl MultiPortGraph {
 
     // The first port is live, and no input that has a wire is refused: how the second is seen. Not `block_port`: a second port that is not live is refused
     // only after the first end is prepared.
+    #[tactic(auto, using(crate::specs::NamedLaws::seen_as_lem, crate::specs::LinkMade::both_on))]
     fn link_seen(
         &mut self,
         a: SidedPort,
@@ -121,6 +123,7 @@ impl MultiPortGraph {
     }
 
     // Links two ports in place; each end takes the lowest offset without a wire.
+    #[tactic(auto, using(portgraph::specs::Numbered::and_numbers, multi_tables::specs::TakenSteps::inputs_untaken, crate::specs::StartSteps::block_is, crate::specs::InputSteps::ports_untaken, crate::specs::InputSteps::parts_untaken))]
     pub fn link_lent(
         &mut self,
         port_a: PortIndex,
@@ -165,6 +168,7 @@ impl MultiPortGraph {
         }
     }
 
+    #[tactic(auto, using(port_tables::specs::TableSteps::passed_on, crate::specs::InputSteps::clean_linked, crate::specs::InputSteps::clean_refused, crate::specs::InputSteps::parts_untaken, crate::specs::OwnTables::read_off))]
     fn link_clean(
         &mut self,
         port_a: PortIndex,

@@ -47,6 +47,7 @@ impl ListTables<'_> {
 
     // Lists the blocks of all used node slots, from the list's start on.
     // Stays a loop, as those of `list_wires`, and beside that over the same slots: what is written of each is its own.
+    #[tactic(auto, unfolding(crate::specs::ListScans::table_blocks), using(crate::specs::ListSteps::begun, crate::specs::ListSteps::item_fits, crate::specs::ListSteps::item_room, crate::specs::ListSteps::items_written))]
     fn list_slots(self, list: &mut [u32])
         requires { (self.len ≤ node_slots) × (length (table_blocks self.nodes.now self.wires.flags.now self.len) ≤ length list.old) }
         ensures { list.new ≡ sets list.old 0 (table_blocks self.entry.nodes.now self.entry.wires.flags.now self.entry.len) }

@@ -43,6 +43,7 @@ impl ListTables<'_> {
 
     // Lists the wires of a split port, by its hidden node; answers how many numbers that took.
     // Stays a loop, as those below: each turn writes where the one before ended, and a closure would have to hold the list and that place; no plainer.
+    #[tactic(auto, using(crate::specs::ListSteps::begun, crate::specs::ListSteps::items_written, crate::specs::ListSteps::split_is))]
     fn list_split(self, list: &mut [u32], port: WireEnd, copy: NodeMeta) -> usize
         requires { length (split_wires self.nodes.now self.wires.links.now self.wires.owners.now self.wires.flags.now port.port port.node port.position copy) ≤ length list.old }
         ensures { (result ≡ length (split_wires self.entry.nodes.now self.entry.wires.links.now self.entry.wires.owners.now self.entry.wires.flags.now port.port port.node port.position copy))
@@ -80,6 +81,7 @@ impl ListTables<'_> {
     }
 
     // Lists the wires of a node's outgoing ports; answers how many numbers that took.
+    #[tactic(auto, using(crate::specs::ListSteps::begun, crate::specs::ListSteps::items_written, crate::specs::ListSteps::side_is))]
     fn list_side(self, list: &mut [u32], node: u32, meta: NodeMeta) -> usize
         requires { BlockFits meta × (length (side_wires self.nodes.now self.wires.links.now self.wires.owners.now self.wires.marks.now self.wires.flags.now node meta) ≤ length list.old) }
         ensures { (result ≡ length (side_wires self.entry.nodes.now self.entry.wires.links.now self.entry.wires.owners.now self.entry.wires.marks.now self.entry.wires.flags.now node meta))
@@ -114,6 +116,7 @@ impl ListTables<'_> {
     }
 
     // Lists the wires of all used node slots, from the list's start on.
+    #[tactic(auto, unfolding(crate::specs::ListScans::table_wires), using(crate::specs::ListSteps::begun, crate::specs::ListSteps::item_fits, crate::specs::ListSteps::item_room, crate::specs::ListSteps::items_written))]
     fn list_nodes(self, list: &mut [u32])
         requires { AllFit self.nodes.now × (self.len ≤ node_slots) × (length (table_wires self.nodes.now self.wires.links.now self.wires.owners.now self.wires.marks.now self.wires.flags.now self.len) ≤ length list.old) }
         ensures { list.new ≡ sets list.old 0 (table_wires self.entry.nodes.now self.entry.wires.links.now self.entry.wires.owners.now self.entry.wires.marks.now self.entry.wires.flags.now self.entry.len) }

@@ -53,6 +53,7 @@ impl MultiPortGraph {
     }
 
     // The side and position of a port.
+    #[tactic(auto, using(port_tables::specs::TableSteps::with_numbers, crate::specs::LookupSteps::offset_found, crate::specs::StartSteps::block_is))]
     pub fn port_offset(&self, port: PortIndex) -> Result<PortOffset, Refusal>
         ensures { (result ≡ offset_of self.now port.0) × (offset_numbers result ≡ offset_numbers (offset_of self.now port.0)) }
     {
@@ -77,6 +78,7 @@ impl MultiPortGraph {
     }
 
     // The number of ports of a block on one side.
+    #[tactic(auto, using(port_tables::specs::TableSteps::with_numbers, crate::specs::LookupSteps::ports_refused, crate::specs::LookupSteps::ports_counted, crate::specs::StartSteps::passed_told))]
     pub fn num_ports(&self, node: NodeIndex, direction: Direction) -> Result<usize, Refusal>
         ensures { (result ≡ num_ports_of self.now node.0 direction) × (count_numbers result ≡ count_numbers (num_ports_of self.now node.0 direction)) }
     {
@@ -85,6 +87,7 @@ impl MultiPortGraph {
     }
 
     // The slots of a block's ports.
+    #[tactic(auto, using(crate::specs::LookupSteps::capacity_refused, crate::specs::StartSteps::passed_told))]
     pub fn node_port_capacity(&self, node: NodeIndex) -> Result<usize, Refusal>
         ensures { (result ≡ capacity_of self.now node.0) × (count_numbers result ≡ count_numbers (capacity_of self.now node.0)) }
     {

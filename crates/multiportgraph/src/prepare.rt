@@ -86,6 +86,7 @@ fn hang(graph: &mut PortGraph, port: u32, copy: u32, first: u32)
 
 impl MultiPortGraph {
     // Unsplit and linked: a hidden node with 2 subports is made, the old link moves to offset 0, and offset 1 is given.
+    #[tactic(auto, using(crate::specs::PrepareSteps::or_err, crate::specs::PrepareSteps::split_full, port_tables::specs::TableSteps::passed_on))]
     fn split(&mut self, port: SidedPort) -> Result<(u32, u16), Refusal>
         requires { LinkedPort self.old port.port port.side }
         ensures { (self.new, result) ≡ prepared_as self.old (split self.old port.port port.side) }

@@ -4,7 +4,8 @@ ghost use Rattle.port_tables.specs.Limits.{port_slots};
 ghost use Rattle.multiportgraph.specs.Walks.{step_subports};
 ghost use Rattle.multiportgraph.specs.WalkNumbers.{node_subports_values};
 ghost use Rattle.multiportgraph.specs.WellFormed.{MultiWf};
-ghost use Rattle.multiportgraph.specs.WalkScans.{first_subport, subport_port, port_subports_in, subports_rest, subports_beyond};
+ghost use Rattle.multi_tables.specs.Scans.{first_found};
+ghost use Rattle.multiportgraph.specs.WalkScans.{subport_port, port_subports_in, subports_rest, subports_beyond};
 
 use crate::iter::NodeSubports;
 use crate::link_walks::held_at;
@@ -19,7 +20,7 @@ use port_tables::sides::{ports_from, ports_to};
 // The subport of a port at an offset, if it has one.
 #[tactic(auto, unfolding(multi_tables::specs::NamedEnds::block_port, port_tables::specs::Lists::range), using(crate::specs::SubportSteps::subports_unseen, crate::specs::SubportSteps::subport_there, crate::specs::SubportSteps::subport_past_lem))]
 fn subport_from(tables: WireTables<'_>, port: u32, offset: usize) -> Option<SubportIndex>
-    ensures { (result ≡ first_subport (port_subports_in tables.entry.marks.now tables.entry.links.now tables.entry.owners.now tables.entry.flags.now port offset))
+    ensures { (result ≡ first_found (port_subports_in tables.entry.marks.now tables.entry.links.now tables.entry.owners.now tables.entry.flags.now port offset))
         × (subport_port port result ≡ port) }
 {
     let (_, direction) = tables.block_port(PortIndex(port)).ok()?;
@@ -43,7 +44,7 @@ fn next_subport(
     offset: usize,
     end: usize,
 ) -> Option<SubportIndex>
-    ensures { (result ≡ first_subport (subports_rest tables.entry.marks.now tables.entry.links.now tables.entry.owners.now tables.entry.flags.now from offset (min end port_slots - from)))
+    ensures { (result ≡ first_found (subports_rest tables.entry.marks.now tables.entry.links.now tables.entry.owners.now tables.entry.flags.now from offset (min end port_slots - from)))
         × (subport_port 0 result < port_slots) }
 {
     let stop = end.min(PORT_SLOTS);
@@ -67,7 +68,7 @@ fn subport_beyond(
     end: usize,
     held: Held,
 ) -> Option<SubportIndex>
-    ensures { (result ≡ first_subport (subports_beyond tables.entry.marks.now tables.entry.links.now tables.entry.owners.now tables.entry.flags.now from end held.port held.offset))
+    ensures { (result ≡ first_found (subports_beyond tables.entry.marks.now tables.entry.links.now tables.entry.owners.now tables.entry.flags.now from end held.port held.offset))
         × (subport_port 0 result < port_slots) }
 {
     let (port, offset) = held.start(from);

@@ -53,6 +53,7 @@ impl MultiPortGraph {
     }
 
     // The hidden node of a split port goes, and what its first subport was linked with is linked to the port.
+    #[tactic(auto, unfolding(multi_tables::specs::TableReads::far_in), using(crate::specs::TidySteps::direct_none, crate::specs::TidySteps::direct_one, crate::specs::OwnTables::read_off))]
     fn link_directly(&mut self, port: SidedPort)
         requires { SplitPort self.old port.port port.side }
         ensures { self.new ≡ link_directly self.old port.port port.side }

@@ -1,14 +1,17 @@
 -- Laws of lists: who stands in a list that is gathered, mapped or sifted, lists in which each item precedes all later ones,
 -- and how many different numbers there are below a bound.
-use Rattle.std.specs.Prelude.{◌≡◌, Bool, not, ◌⊎◌, suc, ℕ, zero, ◌+◌, ◌≤◌, ◌<◌, length, eqb, ltb}
+use Rattle.std.specs.Prelude.{◌≡◌, Bool, not, ◌⊎◌, suc, ℕ, zero, ◌+◌, ◌≤◌, ◌<◌, length, eqb, ltb, get_or, ◌-◌}
 use Rattle.std.proofs.Math.Path.{refl, ap}
 use Rattle.std.proofs.Common.{◌∙◌, subst, sym, arith}
 use Rattle.std.proofs.Math.Bool.{true, false, cond}
 use mathlib.Core.List.{List, [], ◌∷◌, ◌++◌, flat_map, map}
 use Rattle.std.proofs.Math.Logic.{inl, inr, ⊎_elim}
 use borrow.Author.Tests.{eqb-true, eqb-false, lt-ltb, le-ltb, ne_eqb, eq-eqb}
-use Rattle.port_tables.specs.Lists.{Member, filter, range, Rising, Once}
-use Rattle.port_tables.specs.Places.{Wire}
+use Rattle.port_tables.specs.Lists.{Member, range, Rising, Once}
+use Rattle.std.specs.List.{filter}
+use Rattle.port_tables.specs.Places.{Wire, flag}
+use Rattle.std.proofs.Math.ListN.{replicate}
+use Rattle.std.proofs.lemmas.List.Elements.{filter-append}
 
 -- Members.
 
@@ -28,7 +31,6 @@ module _ {A : Type 0} where
   member_append x (y ∷ a) b (inr i) = ⊎_elim (λ h. inl (inr h)) inr (member_append x a b i)
 
   pub member_filter : (t : A → Bool) (x : A) (l : List A) → Member x (filter t l) → Member x l × (t x ≡ true)
-  unfolding filter
   member_filter t x [] i = absurd i
   member_filter t x (y ∷ l) i = go (t y) refl (λ h. let r = member_filter t x l h in (inr r.0, r.1)) i
     where
@@ -38,7 +40,6 @@ module _ {A : Type 0} where
       go false e rest h = rest h
 
   pub filter_member : (t : A → Bool) (x : A) (l : List A) → Member x l → t x ≡ true → Member x (filter t l)
-  unfolding filter
   filter_member t x (y ∷ l) (inl p) h = rw (← p, h) (inl refl)
   filter_member t x (y ∷ l) (inr i) h = go (t y) (filter_member t x l i h)
     where
@@ -89,40 +90,49 @@ range_member x i (suc n) h k = go (eqb x i) refl (λ l. range_member x (suc i) n
     go true e rest = inl (eqb-true x i e)
     go false e rest = let d = eqb-false x i e in inr (rest (omega arith))
 
-pub in_wires : (w : Wire) (l : List Wire) → Member w l → Member w l
-in_wires w (v ∷ l) (inl e) = inl e
-in_wires w (v ∷ l) (inr i) = inr (in_wires w l i)
-in_wires w [] x' = elim x' [ ]
+pub flag_small : (b : Bool) → flag b ≤ 1
+flag_small true = omega arith
+flag_small false = omega arith
 
-pub wire_member : (w : Wire) (l : List Wire) → Member w l → Member w l
-wire_member w (v ∷ l) (inl e) = inl e
-wire_member w (v ∷ l) (inr i) = inr (wire_member w l i)
-wire_member w [] x' = elim x' [ ]
+-- what a run of numbers gives, its first one apart
+module _ {A : Type 0} (f : ℕ → List A) (o n : ℕ) where
+  pub flat_map_on : o < n → flat_map f (range o (n - o)) ≡ f o ++ flat_map f (range (o + 1) (n - (o + 1)))
+  unfolding flat_map range
+  flat_map_on h =
+      let e : n - o ≡ suc (n - (o + 1)) = omega arith in
+      let s : o + 1 ≡ suc o = omega arith in
+      rw (e, s)
+
+  pub flat_map_end : n ≤ o → flat_map f (range o (n - o)) ≡ []
+  unfolding flat_map range
+  flat_map_end h = let e : n - o ≡ 0 = omega arith in rw e
+
+-- a table of one value reads as it everywhere
+pub get_or-replicate_default : {A : Type 0} (k n : ℕ) (d : A) → get_or (replicate k d) n d ≡ d
+get_or-replicate_default zero n d = refl
+get_or-replicate_default (suc k) zero d = refl
+get_or-replicate_default (suc k) (suc n) d = get_or-replicate_default k n d
 
 -- Sifting.
 
 module _ {A : Type 0} (t : A → Bool) where
   pub filter_none : (l : List A) → ((x : A) → Member x l → t x ≡ false) → filter t l ≡ []
-  unfolding filter
   filter_none [] h = refl
   filter_none (x ∷ l) h = rw (h x (inl refl)) (filter_none l (λ y i. h y (inr i)))
 
   pub filter_all : (l : List A) → ((x : A) → Member x l → t x ≡ true) → filter t l ≡ l
-  unfolding filter
   filter_all [] h = refl
   filter_all (x ∷ l) h = rw (h x (inl refl)) (ap (λ (r : List A). x ∷ r) (filter_all l (λ y i. h y (inr i))))
 
-  pub filter_append : (a b : List A) → filter t (a ++ b) ≡ filter t a ++ filter t b
-  unfolding filter
-  filter_append [] b = refl
-  filter_append (x ∷ a) b = go (t x) (filter_append a b)
+  pub filter_shorter : (l : List A) → length (filter t l) ≤ length l
+  filter_shorter [] = omega arith
+  filter_shorter (x ∷ l) = go (t x) (filter_shorter l)
     where
-      go : (c : Bool) → filter t (a ++ b) ≡ filter t a ++ filter t b → cond c (x ∷ filter t (a ++ b)) (filter t (a ++ b)) ≡ cond c (x ∷ filter t a) (filter t a) ++ filter t b
-      go true e = ap (λ (r : List A). x ∷ r) e
-      go false e = e
+      go : (b : Bool) → length (filter t l) ≤ length l → length (cond b (x ∷ filter t l) (filter t l)) ≤ suc (length l)
+      go true h = omega arith
+      go false h = omega arith
 
   pub filter_same : (u : A → Bool) (l : List A) → ((x : A) → Member x l → t x ≡ u x) → filter t l ≡ filter u l
-  unfolding filter
   filter_same u [] h = refl
   filter_same u (x ∷ l) h = go (t x) (u x) (h x (inl refl)) (filter_same u l (λ y i. h y (inr i)))
     where
@@ -130,9 +140,18 @@ module _ {A : Type 0} (t : A → Bool) where
       go b c p q = cc
 
   pub filter_flat_map : {B : Type 0} (f : B → List A) (l : List B) → filter t (flat_map f l) ≡ flat_map (λ b. filter t (f b)) l
-  unfolding flat_map filter
+  unfolding flat_map
   filter_flat_map f [] = refl
-  filter_flat_map f (x ∷ l) = filter_append (f x) (flat_map f l) ∙ ap (λ (r : List A). filter t (f x) ++ r) (filter_flat_map f l)
+  filter_flat_map f (x ∷ l) = filter-append t (f x) (flat_map f l) ∙ ap (λ (r : List A). filter t (f x) ++ r) (filter_flat_map f l)
+
+pub filter_map : {A B : Type 0} (h : A → B) (t : B → Bool) (l : List A) → filter t (map h l) ≡ map h (filter (λ a. t (h a)) l)
+filter_map h t [] = refl
+filter_map {A} {B} h t (x ∷ l) = go (t (h x)) (filter_map h t l)
+  where
+    go : (b : Bool) → filter t (map h l) ≡ map h (filter (λ a. t (h a)) l) →
+        cond b (h x ∷ filter t (map h l)) (filter t (map h l)) ≡ map h (cond b (x ∷ filter (λ a. t (h a)) l) (filter (λ a. t (h a)) l))
+    go true e = ap (λ (r : List B). h x ∷ r) e
+    go false e = e
 
 -- Lists in which each item precedes all later ones.
 
@@ -143,7 +162,6 @@ module _ {A : Type 0} (R : A → A → Type 0) where
       ((λ y i. ⊎_elim (p.0 y) (h x y (inl refl)) (member_append y a b i)), rising_append a b p.1 q (λ z y i j. h z y (inr i) j))
 
   pub rising_filter : (t : A → Bool) (l : List A) → Rising R l → Rising R (filter t l)
-  unfolding filter
   rising_filter t [] r = tt
   rising_filter t (x ∷ l) r = go (t x) (rising_filter t l r.1)
     where
@@ -154,7 +172,6 @@ module _ {A : Type 0} (R : A → A → Type 0) where
   -- the rest of a list after an item: what the item precedes
   pub filter_rest : (t : A → Bool) (w : A) → t w ≡ false → ((v : A) → R w v → t v ≡ true) → ((v : A) → R v w → t v ≡ false) →
       (a rest : List A) → Rising R (a ++ (w ∷ rest)) → filter t (a ++ (w ∷ rest)) ≡ rest
-  unfolding filter
   filter_rest t w h later earlier [] rest r = rw h (filter_all t rest (λ v i. later v (r.0 v i)))
   filter_rest t w h later earlier (x ∷ a) rest r =
       rw (earlier x (r.0 w (member_right w a (w ∷ rest) (inl refl)))) (filter_rest t w h later earlier a rest r.1)
@@ -203,7 +220,7 @@ range_rises i (suc n) = ((λ y h. let r = member_range y (suc i) n h in omega ar
 module _ {A : Type 0} (f : ℕ → List A) (n : ℕ) (t u : A → Bool) where
   pub flat_map_later : (l : List ℕ) → ((k : ℕ) → Member k l → n < k) → ((k : ℕ) → Member k l → (x : A) → Member x (f k) → t x ≡ true) →
       flat_map (λ k. filter t (f k)) l ≡ flat_map f (filter (ltb n) l)
-  unfolding flat_map filter
+  unfolding flat_map
   flat_map_later [] h later = refl
   flat_map_later (k ∷ l) h later =
       rw (lt-ltb n k (h k (inl refl)), filter_all t (f k) (later k (inl refl)))
@@ -214,7 +231,7 @@ module _ {A : Type 0} (f : ℕ → List A) (n : ℕ) (t u : A → Bool) where
       ((k : ℕ) → Member k l → k ≡ n → (x : A) → Member x (f k) → t x ≡ u x) →
       ((k : ℕ) → Member k l → n < k → (x : A) → Member x (f k) → t x ≡ true) →
       flat_map (λ k. filter t (f k)) l ≡ filter u (f n) ++ flat_map f (filter (ltb n) l)
-  unfolding flat_map filter
+  unfolding flat_map
   flat_map_beyond (k ∷ l) r (inl e) before here later =
       let a : filter t (f k) ≡ filter u (f n) = filter_same t u (f k) (here k (inl refl) (sym e)) ∙ ap (λ (j : ℕ). filter u (f j)) (sym e) in
       let b = flat_map_later l (λ j i. let q = r.0 j i in omega arith) (λ j i. let q = r.0 j i in later j (inr i) (omega arith)) in
@@ -230,11 +247,18 @@ module _ {A : Type 0} (f : ℕ → List A) (n : ℕ) (t u : A → Bool) where
 abbrev pub Apart : {A : Type 0} → A → A → Type 0
 Apart x y = x ≡ y → ⊥
 
+-- a list that rises has no item twice
+pub rising_apart : {A : Type 0} (R : A → A → Type 0) (l : List A) → ((x : A) → R x x → ⊥) → Rising R l → Rising Apart l
+rising_apart R [] h r = tt
+rising_apart R (x ∷ l) h r = ((λ y i e. h x (subst (R x) (sym e) (r.0 y i))), rising_apart R l h r.1)
+
+pub numbers_apart : (l : List ℕ) → Rising ◌<◌ l → Rising Apart l
+numbers_apart l r = rising_apart ◌<◌ l (λ x h. omega arith) r
+
 abbrev other : ℕ → ℕ → Bool
 other n x = not (eqb x n)
 
 without_one : (n : ℕ) (l : List ℕ) → Rising Apart l → length l ≤ suc (length (filter (other n) l))
-unfolding filter
 without_one n [] r = omega arith
 without_one n (x ∷ l) r = go (eqb x n) refl (without_one n l r.1)
   where
@@ -249,9 +273,13 @@ without_one n (x ∷ l) r = go (eqb x n) refl (without_one n l r.1)
 
 pub rising_once : (R : Wire → Wire → Type 0) → ((w : Wire) → R w w → ⊥) → (l : List Wire) → Rising R l → Once l
 rising_once R irr [] r = tt
-rising_once R irr (w ∷ l) r = ((λ i. irr w (r.0 w (wire_member w l i))), rising_once R irr l r.1)
+rising_once R irr (w ∷ l) r = ((λ i. irr w (r.0 w i)), rising_once R irr l r.1)
 
 -- Lengths.
+
+pub range_none : (i n : ℕ) → n ≡ 0 → range i n ≡ []
+unfolding range
+range_none i n e = rw e
 
 pub length_range : (i n : ℕ) → length (range i n) ≡ n
 unfolding range

@@ -1,15 +1,10 @@
 -- Words about lists that the toolchain's library does not have, or has in another form.
-use Rattle.std.specs.Prelude.{List, [], ◌∷◌, Bool, cond, ◌≡◌, ◌⊎◌, ℕ, zero, suc}
+use Rattle.std.specs.Prelude.{List, [], ◌∷◌, ◌≡◌, ◌⊎◌, ℕ, zero, suc}
 
 -- n numbers from i on
 unfoldable pub range : ℕ → ℕ → List ℕ
 range i zero = []
 range i (suc n) = i ∷ range (suc i) n
-
--- the items for which a test holds
-unfoldable pub filter {ℓ} : {A : Type ℓ} → (A → Bool) → List A → List A
-filter f [] = []
-filter f (x ∷ l) = cond (f x) (x ∷ filter f l) (filter f l)
 
 -- what f gives for the first item, or the end
 unfoldable pub on_first {ℓ κ} : {A : Type ℓ} {B : Type κ} → B → (A → B) → List A → B

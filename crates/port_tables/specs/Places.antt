@@ -3,7 +3,7 @@ use Rattle.std.specs.Prelude.{Bool, false, cond, ◌||◌, true, not, List, [], 
 use Rattle.port_tables.specs.declared.direction.Direction.{Direction}
 use Rattle.port_tables.specs.declared.direction.Direction.TheVariants.{Incoming, Outgoing}
 use Rattle.port_tables.specs.Entries.{same_side, new_count}
-use Rattle.port_tables.specs.Lists.{filter}
+use Rattle.std.specs.List.{filter}
 
 -- 01's place of an end: node, side, port position on that side, subport offset
 pub record Place : Type 0 where

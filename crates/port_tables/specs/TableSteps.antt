@@ -109,11 +109,12 @@ chained t first size head h = rw (ne_eqb size 0 h)
 pub stored_event : (m : List ℕ) (e a b d : ℕ) → set (set (set m e a) (e + 1) b) (e + 2) d ≡ sets m e (a ∷ b ∷ d ∷ [])
 stored_event m e a b d = let f : e + 1 ≡ suc e = omega arith in let g : e + 2 ≡ suc (suc e) = omega arith in rw (f, g)
 
+-- one place fewer to go
+pub left_one : (k n : ℕ) → k < n → n - k ≡ suc (n - (k + 1))
+left_one k n h = omega arith
+
 -- One turn of each loop, with k of the n ports done: what is left after it, on the changed tables, amounts to what was left before it.
 module _ (k n : ℕ) (h : k < n) where
-  one_less : n - k ≡ suc (n - (k + 1))
-  one_less = omega arith
-
   next : (p : ℕ) → p + (k + 1) ≡ suc (p + k)
   next p = omega arith
 
@@ -122,38 +123,38 @@ module _ (k n : ℕ) (h : k < n) where
 
   pub cut_range_turn : (t t' : List ℕ) (p : ℕ) → t' ≡ cut t (p + k) → cut_range t' (p + (k + 1)) (n - (k + 1)) ≡ cut_range t (p + k) (n - k)
   unfolding cut_range
-  cut_range_turn t t' p e = rw (e, one_less, next p)
+  cut_range_turn t t' p e = rw (e, left_one k n h, next p)
 
   pub cut_count_turn : (t t' : List ℕ) (p far m one : ℕ) → far ≡ at t (p + k) → t' ≡ cut t (p + k) → one ≡ link_count far
       → (m + one) + cut_count t' (p + (k + 1)) (n - (k + 1)) ≡ m + cut_count t (p + k) (n - k)
   unfolding cut_count
-  cut_count_turn t t' p far m one e f g = rw (g, e, f, one_less, next p) (omega arith)
+  cut_count_turn t t' p far m one e f g = rw (g, e, f, left_one k n h, next p) (omega arith)
 
   pub move_up_turn : (t t' : List ℕ) (old new : ℕ) → t' ≡ move_port t (old + k) (new + k)
       → move_up t' (old + (k + 1)) (new + (k + 1)) (n - (k + 1)) ≡ move_up t (old + k) (new + k) (n - k)
   unfolding move_up
-  move_up_turn t t' old new e = rw (e, one_less, next old, next new)
+  move_up_turn t t' old new e = rw (e, left_one k n h, next old, next new)
 
   pub transfer_turn : (t t' t'' : List ℕ) (old new : ℕ) → t' ≡ move_port t (old + k) (new + k) → t'' ≡ put t' (old + k) 0
       → transfer t'' (old + (k + 1)) (new + (k + 1)) (n - (k + 1)) ≡ transfer t (old + k) (new + k) (n - k)
   unfolding transfer
-  transfer_turn t t' t'' old new e f = rw (f, e, one_less, next old, next new)
+  transfer_turn t t' t'' old new e f = rw (f, e, left_one k n h, next old, next new)
 
   pub drop_events_turn : (m m' t t' : List ℕ) (i p far told : ℕ) → far ≡ at t (p + k) → t' ≡ cut t (p + k) → told ≡ told_link far
       → m' ≡ sets m (3 * (i + k)) ((p + k) ∷ 1 ∷ told ∷ [])
       → sets m' (3 * (i + (k + 1))) (drop_events t' (p + (k + 1)) (n - (k + 1))) ≡ sets m (3 * (i + k)) (drop_events t (p + k) (n - k))
   unfolding drop_events
-  drop_events_turn m m' t t' i p far told e f g j = rw (j, g, e, f, one_less, next p, next_event i)
+  drop_events_turn m m' t t' i p far told e f g j = rw (j, g, e, f, left_one k n h, next p, next_event i)
 
   pub move_up_events_turn : (m m' : List ℕ) (i old new : ℕ) → m' ≡ sets m (3 * (i + k)) ((old + k) ∷ 0 ∷ (new + k) ∷ [])
       → sets m' (3 * (i + (k + 1))) (move_up_events (old + (k + 1)) (new + (k + 1)) (n - (k + 1))) ≡ sets m (3 * (i + k)) (move_up_events (old + k) (new + k) (n - k))
   unfolding move_up_events
-  move_up_events_turn m m' i old new e = rw (e, one_less, next old, next new, next_event i)
+  move_up_events_turn m m' i old new e = rw (e, left_one k n h, next old, next new, next_event i)
 
   pub move_down_events_turn : (m m' : List ℕ) (i old new : ℕ) → m' ≡ sets m (3 * (i + k)) ((old + (n - (k + 1))) ∷ 0 ∷ (new + (n - (k + 1))) ∷ [])
       → sets m' (3 * (i + (k + 1))) (move_down_events old new (n - (k + 1))) ≡ sets m (3 * (i + k)) (move_down_events old new (n - k))
   unfolding move_down_events
-  move_down_events_turn m m' i old new e = rw (e, one_less, next_event i)
+  move_down_events_turn m m' i old new e = rw (e, left_one k n h, next_event i)
 
 -- the same for the loop that goes down, with k ports left
 pub move_down_turn : (k : ℕ) → 0 < k → (t t' : List ℕ) (old new : ℕ) → t' ≡ move_port t (old + (k - 1)) (new + (k - 1))
@@ -259,3 +260,21 @@ length_fill [] i n v = refl
 length_fill (x ∷ l) zero zero v = refl
 length_fill (x ∷ l) zero (suc n) v = ap suc (length_fill l zero n v)
 length_fill (x ∷ l) (suc i) n v = ap suc (length_fill l i n v)
+
+pub get_d_fill_in {ℓ} : {A : Type ℓ} (l : List A) (i n s : ℕ) (v d : A) → s < length l → i ≤ s → s < i + n → get_or (fill l i n v) s d ≡ v
+unfolding fill
+get_d_fill_in [] i n s v d h a b = absurd (omega arith)
+get_d_fill_in (x ∷ l) zero zero s v d h a b = absurd (omega arith)
+get_d_fill_in (x ∷ l) zero (suc n) zero v d h a b = refl
+get_d_fill_in (x ∷ l) zero (suc n) (suc s) v d h a b = get_d_fill_in l zero n s v d (omega arith) (omega arith) (omega arith)
+get_d_fill_in (x ∷ l) (suc i) n zero v d h a b = absurd (omega arith)
+get_d_fill_in (x ∷ l) (suc i) n (suc s) v d h a b = get_d_fill_in l i n s v d (omega arith) (omega arith) (omega arith)
+
+pub get_d_fill_out {ℓ} : {A : Type ℓ} (l : List A) (i n s : ℕ) (v d : A) → (i ≤ s → s < i + n → ⊥) → get_or (fill l i n v) s d ≡ get_or l s d
+unfolding fill
+get_d_fill_out [] i n s v d h = refl
+get_d_fill_out (x ∷ l) zero zero s v d h = refl
+get_d_fill_out (x ∷ l) zero (suc n) zero v d h = absurd (h (omega arith) (omega arith))
+get_d_fill_out (x ∷ l) zero (suc n) (suc s) v d h = get_d_fill_out l zero n s v d (λ a b. h (omega arith) (omega arith))
+get_d_fill_out (x ∷ l) (suc i) n zero v d h = refl
+get_d_fill_out (x ∷ l) (suc i) n (suc s) v d h = get_d_fill_out l i n s v d (λ a b. h (omega arith) (omega arith))

@@ -18,7 +18,7 @@ use Rattle.portgraph.specs.Calls.{head_after}
 use Rattle.portgraph.specs.Resize.{resize_anew}
 use Rattle.port_tables.specs.ResizeLinks.{first_slot, kept_incoming, kept_outgoing, drop_links, drop_count, anew_links}
 use Rattle.portgraph.specs.LinkLaws.{Rep, Vacant, NoneOf, Moved, side_place, not_of_side, transfer_at, rep_fill_vacant, rep_extend, cut_range_none, dropped_holds_none, far_number_is_far_is}
-use Rattle.portgraph.specs.GoodSlots.{held_not_idle, block_of_one, free_block_apart, slot_in_range, slots_apart, hand_elim, handed_inside, give_elim, rest_in}
+use Rattle.portgraph.specs.GoodSlots.{held_not_idle, block_within, block_of_one, free_block_apart, slot_in_range, slots_apart, hand_elim, handed_inside, give_elim, rest_in}
 use Rattle.portgraph.specs.GoodLaws.{good_move}
 use Rattle.portgraph.specs.Chains.{length_put_head}
 use Rattle.portgraph.specs.PlaceLaws.{idle_vacant, spare_vacant}
@@ -55,7 +55,7 @@ module _ {g : PortGraph} {M : Model} (good : Good M) (holds : Holds g M) (n : �
   -- The old block and the new one.
 
   old_ends : first_slot m + m.capacity ≤ port_slots
-  old_ends = let a = good.block_ends n m here in let b = good.ports_fit in omega arith
+  old_ends = block_within good n m here
 
   new_ends : first + size ≤ port_slots
   new_ends = let a : first + size ≤ M.port_len + growth size (M.free_blocks size) = good'.block_ends n moved there in omega arith

@@ -15,7 +15,7 @@ use Rattle.portgraph.specs.Joins.{drop_joined, drop_twice, upd_same, upd_other}
 use Rattle.port_tables.specs.Listing.{zero_is_not_one}
 use Rattle.port_tables.specs.ResizeLinks.{first_slot, kept_incoming, kept_outgoing, drop_incoming, drop_links, drop_count}
 use Rattle.portgraph.specs.LinkLaws.{Rep, Vacant, NoneOf, Cleared, side_place, not_of_side, cut_range_at, rep_same, rep_weaken}
-use Rattle.portgraph.specs.GoodSlots.{gone_not_live}
+use Rattle.portgraph.specs.GoodSlots.{gone_not_live, node_below}
 use Rattle.portgraph.specs.Sums.{all_links, one_link_less, total_has, links_after_recount}
 use Rattle.portgraph.specs.PlaceLaws.{rep_of}
 use Rattle.portgraph.specs.LinkHolds.{node_in_range}
@@ -206,10 +206,7 @@ module _ {g : PortGraph} {M : Model} (good : Good M) (holds : Holds g M) (n : �
     fresh = meta_of first incoming outgoing size
 
     below : n < node_slots
-    below =
-        let u = good.node_used n m here in
-        let f = good.nodes_fit in
-        omega arith
+    below = node_below good n m here
 
     pub recount_nodes : (k : ℕ) → slots_at (set g.node_meta n (node_slot_of (meta_of first incoming outgoing size))) k ≡ upd M.node n (live (meta_of first incoming outgoing size)) k
     recount_nodes =

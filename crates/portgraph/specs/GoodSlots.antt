@@ -3,7 +3,7 @@
 use Rattle.std.specs.Prelude.{◌≡◌, refl, Bool, true, false, cond, List, [], ◌∷◌, ◌⊎◌, ℕ, ◌+◌, ◌≤◌, ◌<◌, eqb, leb, ltb}
 use Rattle.std.proofs.Common.{sym, ◌∙◌, ap, subst, inl, inr, ⊎_elim, arith, ltb-true, ltb-false, leb-true, leb-false, eqb-true}
 use Rattle.std.proofs.lemmas.Bool.{eqb-false}
-use Rattle.port_tables.specs.Limits.{port_slots, node_ports}
+use Rattle.port_tables.specs.Limits.{node_slots, port_slots, node_ports}
 use Rattle.port_tables.specs.Lists.{Member, Once}
 use Rattle.portgraph.specs.Model.{Model, to, Slots, gone, live, Who, held, idle, unused, Valid, Good, count_of, first_of, side_start, slot_of, InnerPlace}
 use Rattle.port_tables.specs.Tables.{Within}
@@ -61,6 +61,16 @@ one_position (live m) Incoming Outgoing p q h k o = absurd (omega arith)
 one_position (live m) Outgoing Incoming p q h k o = absurd (omega arith)
 one_position (live m) Outgoing Outgoing p q h k o = (refl, omega arith)
 
+-- a node, its block and its ports lie within the tables
+pub node_below : {M : Model} → Good M → (n : ℕ) (k : NodeMeta) → M.node n ≡ live k → n < node_slots
+node_below good n k e = let a = good.node_used n k e in let b = good.nodes_fit in omega arith
+
+pub block_within : {M : Model} → Good M → (n : ℕ) (k : NodeMeta) → M.node n ≡ live k → k.first_port.0 + k.capacity ≤ port_slots
+block_within good n k e = let a = good.block_ends n k e in let b = good.ports_fit in omega arith
+
+pub ports_end : {M : Model} → Good M → (n : ℕ) (k : NodeMeta) → M.node n ≡ live k → k.first_port.0 + (k.incoming + k.outgoing) ≤ port_slots
+ports_end good n k e = let a = good.ports_in_block n k e in let b = block_within good n k e in omega arith
+
 -- a valid place lies in the block of its live node
 pub slot_in_block : {M : Model} → Good M → (x : InnerPlace) → Valid M.node x →
     (m : NodeMeta) × (M.node x.node ≡ live m) × Within m.first_port.0 m.capacity (slot_of M.node x)
@@ -80,8 +90,7 @@ pub slot_in_range : {M : Model} → Good M → (x : InnerPlace) → Valid M.node
 slot_in_range {M} good x h =
     let r = slot_in_block good x h in
     let w : slot_of M.node x < r.0.first_port.0 + r.0.capacity = r.2.1 in
-    let e : r.0.first_port.0 + r.0.capacity ≤ M.port_len = good.block_ends x.node r.0 r.1 in
-    let f : M.port_len ≤ port_slots = good.ports_fit in
+    let e = block_within good x.node r.0 r.1 in
     omega arith
 
 pub slots_apart : {M : Model} → Good M → (x y : InnerPlace) → Valid M.node x → Valid M.node y → slot_of M.node x ≡ slot_of M.node y → x ≡ y

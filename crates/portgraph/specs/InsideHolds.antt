@@ -14,7 +14,7 @@ use Rattle.portgraph.specs.Joins.{upd_elim, upd_same}
 use Rattle.portgraph.specs.Resize.{resize_inside}
 use Rattle.port_tables.specs.ResizeLinks.{first_slot, kept_outgoing, drop_links, inside_links}
 use Rattle.portgraph.specs.LinkLaws.{Rep, Vacant, NoneOf, Moved, side_place, not_of_side, shift_at, rep_fill_vacant, rep_extend, far_number_is_far_is}
-use Rattle.portgraph.specs.GoodSlots.{block_of_one, free_block_apart, slot_in_range, slots_apart}
+use Rattle.portgraph.specs.GoodSlots.{block_within, block_of_one, free_block_apart, slot_in_range, slots_apart}
 use Rattle.portgraph.specs.GoodLaws.{good_resize}
 use Rattle.portgraph.specs.Chains.{chain_frame}
 use Rattle.portgraph.specs.PlaceLaws.{idle_vacant, spare_vacant}
@@ -42,7 +42,7 @@ module _ {g : PortGraph} {M : Model} (good : Good M) (holds : Holds g M) (n : �
 
   -- the block lies within the table, and the old ports within the block
   ends : first_slot m + m.capacity ≤ port_slots
-  ends = let a = good.block_ends n m here in let b = good.ports_fit in omega arith
+  ends = block_within good n m here
 
   ports : m.incoming + m.outgoing ≤ m.capacity
   ports = good.ports_in_block n m here

@@ -76,11 +76,11 @@ place_cases x y = go (same_place x y) refl
     go true t = inl (same_place_true x y t)
     go false t = inr (same_place_false x y t)
 
-pub to_is_not_nowhere : {f : Far} {y : InnerPlace} → f ≡ to y → f ≡ nowhere → ⊥
-to_is_not_nowhere p q = zero_is_not_one (cc)
+pub nowhere_not_to : {f : Far} {y : InnerPlace} → f ≡ nowhere → f ≡ to y → ⊥
+nowhere_not_to p q = zero_is_not_one (cc)
 
-pub to_once : {f : Far} {x y : InnerPlace} → f ≡ to x → f ≡ to y → x ≡ y
-to_once p q = cc
+pub to_same : {f : Far} {x y : InnerPlace} → f ≡ to x → f ≡ to y → x ≡ y
+to_same p q = cc
 
 -- Links that go with the places of a test.
 
@@ -111,12 +111,12 @@ module _ (f : InnerPlace → Bool) (join : InnerPlace → Far) (x : InnerPlace) 
   drop_joined y = go (f x) refl (join x) refl
     where
       far : (w : InnerPlace) (b : Bool) → f w ≡ b → cond b nowhere (to w) ≡ to y → (to w ≡ to y) × (f y ≡ false)
-      far w true t e = absurd (to_is_not_nowhere e refl)
-      far w false t e = (e, sym (ap f (to_once refl e)) ∙ t)
+      far w true t e = absurd (nowhere_not_to refl e)
+      far w false t e = (e, sym (ap f (to_same refl e)) ∙ t)
 
       go : (b : Bool) → f x ≡ b → (w : Far) → join x ≡ w → cond b nowhere (keep_far f w) ≡ to y → (join x ≡ to y) × (f x ≡ false) × (f y ≡ false)
-      go true a w j e = absurd (to_is_not_nowhere e refl)
-      go false a nowhere j e = absurd (to_is_not_nowhere e refl)
+      go true a w j e = absurd (nowhere_not_to refl e)
+      go false a nowhere j e = absurd (nowhere_not_to refl e)
       go false a (to w) j e = let r = far w (f w) refl e in (j ∙ r.0, a, r.1)
 
   -- a place is left alone where neither it nor its far end is dropped
@@ -202,8 +202,8 @@ pub drop_unlinked : {P : InnerPlace → Type 0} {J : InnerPlace → Far} → Joi
 drop_unlinked {J} j x e z =
     drop_leaves (same_place x) J z
     (λ w f. (
-      same_place_distinct x z (λ p. to_is_not_nowhere (rw (← p) at f) e),
-      same_place_distinct x w (λ p. to_is_not_nowhere (rw (← p) at (j.back z w f)) e),
+      same_place_distinct x z (λ p. nowhere_not_to e (rw (← p) at f)),
+      same_place_distinct x w (λ p. nowhere_not_to e (rw (← p) at (j.back z w f))),
     ))
 
 -- two places without links, of opposite sides, are linked
@@ -214,11 +214,11 @@ joined_link {P} {J} j x y px py freeX free_y opposite =
       valid = λ z w. link_elim (λ f. f ≡ to w → P z) x y J z (λ p e. rw p px) (λ h p e. rw p py) (λ h k. j.valid z w);
       back = λ z w.
           link_elim (λ f. f ≡ to w → link_join x y J w ≡ to z) x y J z
-          (λ p e. rw (p, ← to_once refl e) (link_far x y J (λ q. opposite (ap (λ (u : InnerPlace). u.side) (sym q)))))
-          (λ h p e. rw (p, ← to_once refl e) (link_near x y J))
+          (λ p e. rw (p, ← to_same refl e) (link_far x y J (λ q. opposite (ap (λ (u : InnerPlace). u.side) (sym q)))))
+          (λ h p e. rw (p, ← to_same refl e) (link_near x y J))
           (λ h k e.
           let b : J w ≡ to z = j.back z w e in
-          link_other x y J w (λ p. to_is_not_nowhere (rw p at b) freeX) (λ p. to_is_not_nowhere (rw p at b) free_y) ∙ b);
+          link_other x y J w (λ p. nowhere_not_to freeX (rw p at b)) (λ p. nowhere_not_to free_y (rw p at b)) ∙ b);
       sides = λ z w.
           link_elim (λ f. f ≡ to w → z.side ≡ w.side → ⊥) x y J z
           (λ p e s. opposite (cc)) (λ h p e s. opposite (cc)) (λ h k. j.sides z w);

@@ -1,6 +1,6 @@
 -- The empty graph, and graphs after ports are linked and unlinked: their tables stand for the models that the calls mean.
 -- What each answer of linking and unlinking says of the places of the ports, and that well-formed graphs stay so.
-use Rattle.std.specs.Prelude.{◌≡◌, refl, Bool, true, false, cond, List, ◌⊎◌, ℕ, zero, suc, ◌+◌, ◌-◌, ◌≤◌, ◌<◌, leb, ltb, length, get_or, replicate, Option, Some, None, Result, Ok, Err}
+use Rattle.std.specs.Prelude.{◌≡◌, refl, Bool, true, false, cond, List, ◌⊎◌, ℕ, zero, suc, ◌+◌, ◌-◌, ◌<◌, leb, ltb, length, get_or, replicate, Option, Some, None, Result, Ok, Err}
 use Rattle.std.proofs.Common.{sym, ◌∙◌, subst, inl, inr, arith, add-one, eq-eqb, ne_eqb}
 use Rattle.std.proofs.Math.Path.{ap}
 use Rattle.std.proofs.Math.Nat.{sub-zero}
@@ -19,7 +19,7 @@ use Rattle.port_tables.specs.TableSteps.{link_count_none}
 use Rattle.portgraph.specs.Chains.{chain_frame}
 use Rattle.portgraph.specs.Sums.{all_links, one_link_less, link_counts_one}
 use Rattle.portgraph.specs.LinkLaws.{Rep, Vacant, far_number_is_far_is, cut_at, cut_elsewhere, cut_counts, cut_none, link_at, link_elsewhere}
-use Rattle.portgraph.specs.GoodSlots.{gone_not_live, slot_in_block, joined_is_valid}
+use Rattle.portgraph.specs.GoodSlots.{gone_not_live, node_below, slot_in_block, joined_is_valid}
 use Rattle.portgraph.specs.GoodLaws.{empty_model, good_empty, good_link, good_unlink}
 use Rattle.portgraph.specs.PlaceLaws.{meta_of_place, port_of_place, slot_cases, dead_port, vacant_is_dead, idle_vacant, spare_vacant, rep_of, link_none, none_linked, port_link_dead, port_link_none, port_link_to}
 use Rattle.port_tables.specs.declared.direction.Direction.{Direction}
@@ -57,7 +57,7 @@ head_of_zeros t k e = go (leb k node_ports)
     go true = e
     go false = refl
 
-total_none : (n : ℕ) (f : ℕ → ℕ) → ((i : ℕ) → f i ≡ 0) → total n f ≡ 0
+pub total_none : (n : ℕ) (f : ℕ → ℕ) → ((i : ℕ) → f i ≡ 0) → total n f ≡ 0
 unfolding total
 total_none zero f none = refl
 total_none (suc n) f none = let a = total_none n f none in let b = none n in omega arith
@@ -159,11 +159,7 @@ module _ {g : PortGraph} {M : Model} (good : Good M) (holds : Holds g M) where
       first_within k b i = let p : 0 < k = (good.idle_ends k b i).0 in (omega arith, omega arith)
 
   pub node_in_range : (z : InnerPlace) → Valid M.node z → z.node < node_slots
-  node_in_range z v =
-      let r = slot_in_block good z v in
-      let a : z.node < M.node_len = good.node_used z.node r.0 r.1 in
-      let b : M.node_len ≤ node_slots = good.nodes_fit in
-      omega arith
+  node_in_range z v = let r = slot_in_block good z v in node_below good z.node r.0 r.1
 
   pub link_holds : (x y : InnerPlace) → Valid M.node x → Valid M.node y → M.join x ≡ nowhere → M.join y ≡ nowhere → (x.side ≡ y.side → ⊥) →
       Holds (with_links g (link_both g.port_link (slot_of M.node x) (slot_of M.node y)) (g.link_count + 1)) (link_model M x y)

@@ -14,8 +14,8 @@ use Rattle.port_tables.specs.Tables.{at, put, fill_range, chain_block, shift, li
 use Rattle.portgraph.specs.TableLaws.{length_put, length_fill_range, length_chain_block, length_link_both, length_cut, length_move_port, at_put_same, at_put_other, at_fill_outside, at_chain_other}
 use Rattle.portgraph.specs.Model.{Far, nowhere, to, Slots, live, Valid, side_start, slot_of, far_number, is_linked, InnerPlace}
 use Rattle.portgraph.specs.Meaning.{same_place, drop_join, link_join}
-use Rattle.port_tables.specs.TableSteps.{linked_both}
-use Rattle.portgraph.specs.Joins.{same_place_refl, same_place_true, same_place_false, same_place_distinct, place_cases, to_is_not_nowhere, to_once, drop_here, drop_there, drop_joined, drop_leaves, drop_twice, drop_unlinked, drop_elsewhere, link_near, link_far, link_other, Joined, far_valid, joined_drop, joined_link}
+use Rattle.port_tables.specs.TableSteps.{linked_both, cut_both}
+use Rattle.portgraph.specs.Joins.{same_place_refl, same_place_true, same_place_false, same_place_distinct, place_cases, nowhere_not_to, to_same, drop_here, drop_there, drop_joined, drop_leaves, drop_twice, drop_unlinked, drop_elsewhere, link_near, link_far, link_other, Joined, far_valid, joined_drop, joined_link}
 use Rattle.port_tables.specs.declared.direction.Direction.{Direction}
 use Rattle.port_tables.specs.declared.direction.Direction.TheVariants.{Incoming, Outgoing}
 use Rattle.port_tables.specs.declared.node_entry.NodeMeta.{NodeMeta}
@@ -138,12 +138,6 @@ pub cut_none : (t : List ℕ) (s : ℕ) → at t s ≡ 0 → cut t s ≡ t
 unfolding cut cut_far
 cut_none t s e = rw e
 
-cut_both : (t : List ℕ) (s r : ℕ) → at t s ≡ suc r → cut t s ≡ put (put t s 0) r 0
-unfolding cut cut_far
-cut_both t s r e =
-    let one : suc r - 1 ≡ r = omega arith in
-    rw (e, eqb-suc-zero r, one)
-
 pub link_count_far_is : (ν : InnerPlace → ℕ) (f : Far) → link_count (far_is ν f) ≡ is_linked f
 unfolding link_count
 link_count_far_is ν nowhere = refl
@@ -160,7 +154,10 @@ at_put_again t s r v l k e = go (eqb s r) refl
 module _ {P : InnerPlace → Type 0} {ν : InnerPlace → ℕ} {J : InnerPlace → Far} {t : List ℕ} (R : Rep P ν J t) (x : InnerPlace) (px : P x) where
   -- the table after a cut, by the far end
   pub cut_linked : (y : InnerPlace) → J x ≡ to y → cut t (ν x) ≡ put (put t (ν x) 0) (ν y) 0
-  cut_linked y e = cut_both t (ν x) (ν y) (R.links x px ∙ ap (far_is ν) e)
+  cut_linked y e =
+      let far : at t (ν x) ≡ suc (ν y) = R.links x px ∙ ap (far_is ν) e in
+      let one : suc (ν y) - 1 ≡ ν y = omega arith in
+      sym (cut_both t (ν x) (suc (ν y)) (sym far) (λ z. omega arith)) ∙ ap (λ (r : ℕ). put (put t (ν x) 0) r 0) one
 
   pub cut_unlinked : J x ≡ nowhere → cut t (ν x) ≡ t
   cut_unlinked e = cut_none t (ν x) (R.links x px ∙ ap (far_is ν) e)
@@ -187,7 +184,7 @@ module _ {P : InnerPlace → Type 0} {ν : InnerPlace → ℕ} {J : InnerPlace �
       linked y e z pz (inr n) (inr m) =
           let py : P y = far_valid R.joined x y e in
           let d : drop_join (same_place x) J z ≡ J z =
-          drop_elsewhere J x z n (λ p. m (to_once (R.joined.back z x p) e)) in
+          drop_elsewhere J x z n (λ p. m (to_same (R.joined.back z x p) e)) in
           rw d
           (at_put_other _ (ν y) (ν z) 0 (λ h. m (sym (R.apart y z py pz h)))
           ∙ (at_put_other t (ν x) (ν z) 0 (λ h. n (sym (R.apart x z px pz h))) ∙ R.links z pz))
@@ -314,7 +311,7 @@ module _ {P : InnerPlace → Type 0} {ν : InnerPlace → ℕ} {J : InnerPlace �
           (at_put_other _ (ν y) (ν z) _ (λ h. m (sym (R.apart y z py pz h)))
           ∙ (at_put_other t new (ν z) _ (λ h. free z pz n (sym h))
           ∙ (R.links z pz
-          ∙ same_far z pz (λ w f h. m (to_once (rw h at (R.joined.back z w f)) e)))))
+          ∙ same_far z pz (λ w f h. m (to_same (rw h at (R.joined.back z w f)) e)))))
 
       go : (f : Far) → J x ≡ f → (z : InnerPlace) → P z → (z ≡ x) ⊎ (z ≡ x → ⊥) → at (move_port t (ν x) new) (ν' z) ≡ far_is ν' (J z)
       go nowhere e z pz (inl p) = rw (move_unlinked e, p, here, e) (at_put_same t new 0 R.long small)
@@ -322,7 +319,7 @@ module _ {P : InnerPlace → Type 0} {ν : InnerPlace → ℕ} {J : InnerPlace �
           rw (move_unlinked e, others z pz n)
           (at_put_other t new (ν z) 0 (λ h. free z pz n (sym h))
           ∙ (R.links z pz
-          ∙ same_far z pz (λ w f h. to_is_not_nowhere (rw h at (R.joined.back z w f)) e)))
+          ∙ same_far z pz (λ w f h. nowhere_not_to e (rw h at (R.joined.back z w f)))))
       go (to y) e z pz o =
           rw (move_linked y e)
           (linked y e (λ h. R.joined.sides x y e (ap (λ p. p.side) (sym h))) (far_valid R.joined x y e) z pz o (place_cases z y))

@@ -5,12 +5,13 @@ use Rattle.std.proofs.Math.Path.{◌≡◌, refl, sym, ap}
 use Rattle.std.proofs.Common.{◌∙◌, inl, inr}
 use Rattle.std.specs.Prelude.{Bool, ◌⊎◌, ℕ, zero, suc, ◌+◌, ◌-◌, ◌≤◌, ◌<◌, max, eqb, leb, Option, Some, None}
 use Rattle.std.proofs.Math.Bool.{true, false, cond}
-use mathlib.Core.List.{List, [], ◌∷◌, map}
+use mathlib.Core.List.{List, [], ◌∷◌, map, map-id}
 use native.Mathlib.Omega.{arith}
 use Rattle.std.proofs.Math.Dec.{ltb}
 use borrow.Author.Tests.{ne_eqb, eqb-true, ltb-true, ltb-false}
 use Rattle.port_tables.specs.Limits.{port_slots, node_ports}
-use Rattle.port_tables.specs.Lists.{Member, Once, range, filter, on_first}
+use Rattle.port_tables.specs.Lists.{Member, Once, range, on_first}
+use Rattle.std.specs.List.{filter}
 use Rattle.port_tables.specs.Entries.{port_entry, node#, port#, node_of, node_number, ports_from, ports_to}
 use Rattle.port_tables.specs.Tables.{at, far_in, owner_in}
 use Rattle.portgraph.specs.Model.{Model, Good, Holds, to, Slots, gone, live, Valid, slot_of, far_number, count_of, side_start, InnerPlace}
@@ -46,7 +47,7 @@ record Next (f : ℕ → Bool) (p k m : ℕ) : Type 0 where
   pub holds : f m ≡ true
 
 next_or_none : (f : ℕ → Bool) (p k : ℕ) → ((m : ℕ) × Next f p k m) ⊎ (filter f (range p k) ≡ [])
-unfolding filter range
+unfolding range
 next_or_none f p zero = inr refl
 next_or_none f p (suc k) = go (f p) refl (next_or_none f (suc p) k)
   where
@@ -91,7 +92,7 @@ unfolding beyond
 step_gone there held end item l e = rw e
 
 nothing_beyond {ℓ} : {A : Type ℓ} (there : Bool) (held : ℕ) (end : A) (item : ℕ → A) → end ≡ beyond there held end item []
-unfolding beyond on_first filter
+unfolding beyond on_first
 nothing_beyond true held end item = refl
 nothing_beyond false held end item = refl
 
@@ -202,10 +203,6 @@ contained_is_held g p e = held_is_port g.port_meta p ∙ e
 
 -- All ports.
 
-map_itself : (l : List ℕ) → map (λ p. p) l ≡ l
-map_itself [] = refl
-map_itself (x ∷ l) = ap (λ r. x ∷ r) (map_itself l)
-
 all_ports_on : (g : PortGraph) (fuel held : ℕ)
     → walk_all_ports g (suc fuel) (ports_cursor held)
     ≡ beyond (held_in g.port_meta held) held (whole []) (λ p. more p (walk_all_ports g fuel (ports_cursor (suc p)))) (filter (is_port_in g.port_meta) (range 0 port_slots))
@@ -218,7 +215,7 @@ unfolding all_ports
 walk_gives_all_live_ports g =
     all_walked (λ p. p) (is_port_in g.port_meta) (held_in g.port_meta) 0 port_slots (λ fuel held. walk_all_ports g fuel (ports_cursor held)) (all_ports_on g)
     (λ p a b h. held_is_port g.port_meta p ∙ h) (port_slots + 1) (omega arith) (held_at_start g.port_meta)
-    ∙ ap whole (map_itself _)
+    ∙ ap whole (map-id _)
 
 -- The walks over the links of a node.
 
@@ -268,9 +265,6 @@ within m Both p a b = (omega arith, omega arith)
 
 module _ (g : PortGraph) (M : Model) (good : Good M) (holds : Holds g M) where
   module _ (n : ℕ) (m : NodeMeta) (node : M.node n ≡ live m) where
-    meta : meta_at g n ≡ Some m
-    meta = meta_of_node good holds n m node
-
     alive : (sides : Sides) (f : ℕ → Bool) (p : ℕ) → ports_from m sides ≤ p → p < ports_from m sides + (ports_to m sides - ports_from m sides) → f p ≡ true → held_in g.port_meta (suc p) ≡ true
     alive sides f p a b h = let w = within m sides p a b in contained_is_held g p (ports_alive g M good holds n m node p w.0 w.1)
 
@@ -284,24 +278,24 @@ module _ (g : PortGraph) (M : Model) (good : Good M) (holds : Holds g M) where
     -- from the start: all links of the node on these sides but those skipped, in order, and then the end
     pub walk_gives_all_links : (sides : Sides) (lo hi : ℕ) → walk_links g (node_ports + 1) (links_cursor n sides lo hi 0) ≡ whole (node_links g n sides lo hi)
     walk_gives_all_links sides lo hi =
-        all_walked (link_at g) (link_kept g.port_link lo hi) (held_in g.port_meta) (ports_from m sides) (ports_to m sides - ports_from m sides) (λ fuel held. walk_links g fuel (links_cursor n sides lo hi held)) (links_on g n m meta sides lo hi)
+        all_walked (link_at g) (link_kept g.port_link lo hi) (held_in g.port_meta) (ports_from m sides) (ports_to m sides - ports_from m sides) (λ fuel held. walk_links g fuel (links_cursor n sides lo hi held)) (links_on g n m (meta_of_node good holds n m node) sides lo hi)
         (alive sides (link_kept g.port_link lo hi)) (node_ports + 1) (enough sides) (held_at_start g.port_meta)
-        ∙ ap whole (listed_links g n m meta sides lo hi)
+        ∙ ap whole (listed_links g n m (meta_of_node good holds n m node) sides lo hi)
 
     -- from the start: a neighbour for each of the node's links, in order, and then the end
     pub walk_gives_all_neighbours : (sides : Sides) (flag : Bool) → walk_neighbours g (node_ports + 1) (neighbours_cursor n sides flag 0) ≡ whole (neighbours g n sides flag)
     walk_gives_all_neighbours sides flag =
         all_walked (neighbour_at g) (link_kept g.port_link (own_from flag (Some m)) (own_to flag (Some m))) (held_in g.port_meta) (ports_from m sides) (ports_to m sides - ports_from m sides)
-        (λ fuel held. walk_neighbours g fuel (neighbours_cursor n sides flag held)) (neighbours_on g n m meta sides flag)
+        (λ fuel held. walk_neighbours g fuel (neighbours_cursor n sides flag held)) (neighbours_on g n m (meta_of_node good holds n m node) sides flag)
         (alive sides (link_kept g.port_link (own_from flag (Some m)) (own_to flag (Some m)))) (node_ports + 1) (enough sides) (held_at_start g.port_meta)
-        ∙ ap whole (listed_neighbours g n m meta sides flag)
+        ∙ ap whole (listed_neighbours g n m (meta_of_node good holds n m node) sides flag)
 
     -- from the start: all links from the node's outgoing side to the other node, in order, and then the end
     pub walk_gives_all_connections : (k : ℕ) → walk_connections g (node_ports + 1) (connections_cursor n k 0) ≡ whole (connections g n k)
     walk_gives_all_connections k =
-        all_walked (link_at g) (link_to g.port_link g.port_meta k) (held_in g.port_meta) (ports_from m (One Outgoing)) (ports_to m (One Outgoing) - ports_from m (One Outgoing)) (λ fuel held. walk_connections g fuel (connections_cursor n k held)) (connections_on g n m meta k)
+        all_walked (link_at g) (link_to g.port_link g.port_meta k) (held_in g.port_meta) (ports_from m (One Outgoing)) (ports_to m (One Outgoing) - ports_from m (One Outgoing)) (λ fuel held. walk_connections g fuel (connections_cursor n k held)) (connections_on g n m (meta_of_node good holds n m node) k)
         (alive (One Outgoing) (link_to g.port_link g.port_meta k)) (node_ports + 1) (enough (One Outgoing)) (held_at_start g.port_meta)
-        ∙ ap whole (listed_connections g n m meta k)
+        ∙ ap whole (listed_connections g n m (meta_of_node good holds n m node) k)
 
   -- What the items are, in the model.
 
@@ -432,7 +426,7 @@ later_ascends n [] a = a
 later_ascends n (x ∷ l) a = ((let b : suc n ≤ x = a.0 in omega arith), a.1)
 
 pub listing_ascends : (f : ℕ → Bool) (p k : ℕ) → Ascending p (filter f (range p k))
-unfolding filter range
+unfolding range
 listing_ascends f p zero = tt
 listing_ascends f p (suc k) = go (f p) (listing_ascends f (suc p) k)
   where

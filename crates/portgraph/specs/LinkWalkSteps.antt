@@ -3,20 +3,20 @@ use Rattle.std.specs.Prelude.{◌≡◌, Bool, List, ◌∷◌, Option, Some, No
 use Rattle.std.proofs.Math.Path.{refl, ap}
 use Rattle.std.proofs.Common.{sym, ◌∙◌, arith, add-one}
 use Rattle.std.proofs.Math.Bool.{true, false, cond}
-use Prim.Native.Nat.{ℕ, zero, suc, ◌+◌, ◌-◌, ◌/◌, ◌≤◌, ◌<◌, max}
-use Rattle.std.proofs.Math.Dec.{eqb, leb, ltb}
-use borrow.Author.Tests.{lt-ltb, le-ltb, le-leb, eq-eqb, ne_eqb, leb-true, leb-false, eqb-true, eqb-false, ltb-true, ltb-false}
+use Prim.Native.Nat.{ℕ, zero, suc, ◌+◌, ◌-◌, ◌≤◌, ◌<◌, max}
+use Rattle.std.proofs.Math.Dec.{leb, ltb}
+use borrow.Author.Tests.{lt-ltb, le-ltb, le-leb, leb-true, leb-false, ltb-true, ltb-false}
 use Rattle.port_tables.specs.Limits.{node_slots, port_slots}
-use Rattle.port_tables.specs.Lists.{range, filter, on_first}
-use Rattle.port_tables.specs.Entries.{is_node, fresh_slot, node#, port_entry, port#, ports_from, ports_to}
-use Rattle.port_tables.specs.Tables.{at, owner_in}
+use Rattle.port_tables.specs.Lists.{range, on_first}
+use Rattle.std.specs.List.{filter}
+use Rattle.port_tables.specs.Entries.{is_node, fresh_slot, node#, port#, ports_from, ports_to}
 use Rattle.port_tables.specs.ResizeLinks.{BlockFits}
 use Rattle.portgraph.specs.Model.{Wf}
 use Rattle.portgraph.specs.Lookups.{meta_at}
 use Rattle.portgraph.specs.LookupSteps.{found_block_fits}
 use Rattle.portgraph.specs.WalkLaws.{ports_of_node}
 use Rattle.portgraph.specs.Walks.{node_from, node_held, step_nodes, port_held, ports_item, ports_beyond, step_ports}
-use Rattle.portgraph.specs.LinkWalks.{beyond, is_port_in, held_in, is_kept, link_kept, link_to, ports_in, own_from, own_to, own_ports, all_ports, all_ports_item, step_all_ports, first_where, before, node_left, ports_left}
+use Rattle.portgraph.specs.LinkWalks.{beyond, is_port_in, held_in, ports_in, own_from, own_to, own_ports, all_ports, all_ports_item, step_all_ports, first_where, before, node_left, ports_left}
 use Rattle.port_tables.specs.declared.direction.Direction.TheVariants.{Incoming, Outgoing}
 use Rattle.port_tables.specs.declared.node_entry.NodeMeta.{NodeMeta}
 use Rattle.portgraph.specs.declared.portgraph.PortGraph.{PortGraph}
@@ -121,7 +121,7 @@ where_bounds f p (suc k) = go (f p) (where_bounds f (suc p) k)
 
 first_of_filter {ℓ} : {A : Type ℓ} (end : A) (item : ℕ → A) (f : ℕ → Bool) (p k n : ℕ) → n ≡ p + k
     → on_first end item (filter f (range p k)) ≡ cond (ltb (first_where f p k) n) (item (first_where f p k)) end
-unfolding on_first filter range first_where
+unfolding on_first range first_where
 first_of_filter end item f p zero n e = rw (le-ltb p n (omega arith))
 first_of_filter end item f p (suc k) n e = go (f p) (first_of_filter end item f (suc p) k n (omega arith))
   where
@@ -133,7 +133,7 @@ first_of_filter end item f p (suc k) n e = go (f p) (first_of_filter end item f 
 
 -- what lies beyond the port held is the listing from there on
 pub all_beyond : (f : ℕ → Bool) (held p k : ℕ) → held ≤ p → filter (leb held) (filter f (range p k)) ≡ filter f (range p k)
-unfolding filter range
+unfolding range
 all_beyond f held p zero l = refl
 all_beyond f held p (suc k) l = go (f p) (all_beyond f held (suc p) k (omega arith))
   where
@@ -143,7 +143,7 @@ all_beyond f held p (suc k) l = go (f p) (all_beyond f held (suc p) k (omega ari
     go false h = h
 
 pub filter_beyond : (f : ℕ → Bool) (held p k : ℕ) → filter (leb held) (filter f (range p k)) ≡ filter f (range (max p held) (p + k - max p held))
-unfolding filter range
+unfolding range
 filter_beyond f held p zero = ends (p + 0 - max p held) (omega arith)
   where
     ends : (j : ℕ) → j ≡ 0 → filter (leb held) (filter f (range p zero)) ≡ filter f (range (max p held) j)
@@ -172,7 +172,7 @@ filter_beyond f held p (suc k) = go (leb held p) refl (filter_beyond f held (suc
 -- nothing is left past the end
 past {ℓ} : {A : Type ℓ} (end : A) (item : ℕ → A) (f : ℕ → Bool) (p k n : ℕ) → k ≡ 0 → n ≤ p
     → on_first end item (filter f (range p k)) ≡ cond (ltb (first_where f p k) n) (item (first_where f p k)) end
-unfolding on_first filter range first_where
+unfolding on_first range first_where
 past end item f p k n e l = rw e (rw (le-ltb p n l))
 
 module _ {ℓ} {A : Type ℓ} (end : A) (item : ℕ → A) (f : ℕ → Bool) where
@@ -191,7 +191,7 @@ module _ {ℓ} {A : Type ℓ} (end : A) (item : ℕ → A) (f : ℕ → Bool) wh
       go q k a b = rw (a, b) (there (ports_to m sides - p) refl)
 
 pub no_node_no_step {ℓ} : {A : Type ℓ} (end : A) (item : ℕ → A) (f : ℕ → Bool) (there : Bool) (held : ℕ) (sides : Sides) (m : Option NodeMeta) → None ≡ m → end ≡ beyond there held end item (filter f (ports_in m sides))
-unfolding beyond on_first filter
+unfolding beyond on_first
 no_node_no_step end item f there held sides m e = rw (sym e) (go there)
   where
     go : (b : Bool) → end ≡ cond b end end
@@ -204,7 +204,7 @@ module _ {A : Type 0} (item : ℕ → Option A) (f : ℕ → Bool) (g : PortGrap
   stepped = beyond (held_in g.port_meta held) held None item (filter f (ports_in (meta_at g n) sides))
 
   pub step_gone : o ≡ None → None ≡ stepped
-  unfolding node_left beyond on_first filter
+  unfolding node_left beyond on_first
   step_gone e = go (held_in g.port_meta held) (meta_at g n) (sym left ∙ e)
     where
       go : (b : Bool) (m : Option NodeMeta) → cond b m None ≡ None → None ≡ beyond b held None item (filter f (ports_in m sides))
@@ -243,9 +243,9 @@ module _ {A : Type 0} (item : ℕ → Option A) (f : ℕ → Bool) (g : PortGrap
         rw (by_search, lt-ltb (first_where f l.start (l.end - l.start)) l.end below) (ap item at.0)
 
 -- the block of the node that is left lies within the tables
-pub left_fits : (g : PortGraph) → Wf g → (n held : ℕ) {o : Option NodeMeta} (m : NodeMeta) → o ≡ node_left g.node_meta g.port_meta n held → o ≡ Some m → BlockFits m
+pub left_fits : (g : PortGraph) → Wf g → (n held : ℕ) (m : NodeMeta) → Some m ≡ node_left g.node_meta g.port_meta n held → BlockFits m
 unfolding node_left
-left_fits g wf n held m left is = go (held_in g.port_meta held) (meta_at g n) refl (sym left ∙ is)
+left_fits g wf n held m is = go (held_in g.port_meta held) (meta_at g n) refl (sym is)
   where
     go : (b : Bool) (k : Option NodeMeta) → meta_at g n ≡ k → cond b k None ≡ Some m → BlockFits m
     go true None z h = absurd cc
@@ -264,13 +264,16 @@ own_left g n held flag m {s} left is own = go (held_in g.port_meta held) (meta_a
     go false k h = absurd cc
 
 -- the step of a walk over a node's ports
-pub ports_stepped : (g : PortGraph) (c : NodePorts) {o : Option NodeMeta} → o ≡ node_left g.node_meta g.port_meta c.node.0 c.held → ports_beyond c.node.0 c.sides c.held o ≡ step_ports g c
+ports_stepped : (g : PortGraph) (c : NodePorts) {o : Option NodeMeta} → o ≡ node_left g.node_meta g.port_meta c.node.0 c.held → ports_beyond c.node.0 c.sides c.held o ≡ step_ports g c
 unfolding node_left step_ports held_in is_port_in
 ports_stepped g c left = ap (ports_beyond c.node.0 c.sides c.held) left ∙ go (port_held g c.held) (meta_at g c.node.0)
   where
     go : (b : Bool) (m : Option NodeMeta) → ports_beyond c.node.0 c.sides c.held (cond b m None) ≡ cond b (ports_beyond c.node.0 c.sides c.held m) None
     go true m = refl
     go false m = refl
+
+pub port_gone : (g : PortGraph) (c : NodePorts) {o : Option NodeMeta} → o ≡ node_left g.node_meta g.port_meta c.node.0 c.held → o ≡ None → None ≡ step_ports g c
+port_gone g c left is = ap (ports_beyond c.node.0 c.sides c.held) (sym is) ∙ ports_stepped g c left
 
 module _ (g : PortGraph) (c : NodePorts) {o : Option NodeMeta} (m : NodeMeta) {l : Range ℕ} (left : o ≡ node_left g.node_meta g.port_meta c.node.0 c.held) (is : o ≡ Some m)
     (ports : l ≡ ports_left m c.sides c.held) where
@@ -283,36 +286,6 @@ module _ (g : PortGraph) (c : NodePorts) {o : Option NodeMeta} (m : NodeMeta) {l
 
   pub port_given : l.start < l.end → Some (port# l.start, record { node = c.node; sides = c.sides; held = l.start + 1 }) ≡ step_ports g c
   port_given h = rw (stepped_at, lt-ltb l.start l.end h, add-one)
-
--- Single readings of the tables.
-
-module _ (t : List ℕ) (p e : ℕ) (read : e ≡ at t p) where
-  pub owner_none : e ≡ 0 → 0 ≡ owner_in t p
-  unfolding owner_in port_entry
-  owner_none z = rw (eq-eqb (at t p) 0 (sym read ∙ z))
-
-  pub owner_some : (e ≡ 0 → ⊥) → (e - 1) / 2 ≡ owner_in t p
-  unfolding owner_in port_entry
-  owner_some n = rw (ne_eqb (at t p) 0 (λ z. n (read ∙ z)), read)
-
-  pub owner_read : (w : ℕ) → w ≡ e - 1 → w / 2 ≡ owner_in t p
-  owner_read w h = go (eqb e 0) refl
-    where
-      go : (b : Bool) → eqb e 0 ≡ b → w / 2 ≡ owner_in t p
-      go true z = let none : e ≡ 0 = eqb-true e 0 z in let half : w / 2 ≡ 0 = omega arith in half ∙ owner_none none
-      go false z = ap (λ x. x / 2) h ∙ owner_some (eqb-false e 0 z)
-
-  pub kept_read : (lo hi : ℕ) (r : Bool) → r ≡ is_kept e lo hi → r ≡ link_kept t lo hi p
-  unfolding link_kept
-  kept_read lo hi r h = h ∙ ap (λ x. is_kept x lo hi) read
-
-  pub link_to_none : (owners : List ℕ) (n : ℕ) → e ≡ 0 → false ≡ link_to t owners n p
-  unfolding link_to
-  link_to_none owners n z = rw (eq-eqb (at t p) 0 (sym read ∙ z))
-
-pub held_none : (t : List ℕ) (held : ℕ) → held ≡ 0 → true ≡ held_in t held
-unfolding held_in
-held_none t held z = rw (eq-eqb held 0 z)
 
 -- the walk over all ports
 pub ports_gone : (g : PortGraph) (c : Ports) (there : Bool) → there ≡ held_in g.port_meta c.held → there ≡ false → None ≡ step_all_ports g c

@@ -2,7 +2,8 @@
 -- A step gives the next item of the present listing beyond the port held; a cursor whose node or port is gone ends the walk.
 use Rattle.std.specs.Prelude.{Bool, true, false, cond, List, [], ◌∷◌, map, ℕ, suc, ◌-◌, zero, max, eqb, leb, ltb, get_or, Option, Some, None, Result, Ok, Err}
 use Rattle.port_tables.specs.Limits.{port_slots}
-use Rattle.port_tables.specs.Lists.{filter, on_first, range}
+use Rattle.port_tables.specs.Lists.{on_first, range}
+use Rattle.std.specs.List.{filter}
 use Rattle.port_tables.specs.Entries.{port_entry, node#, port#, node_of, meta_of_entry, fresh_slot, ports_from, ports_to}
 use Rattle.port_tables.specs.Tables.{at, far_in, owner_in}
 use Rattle.portgraph.specs.Lookups.{meta_at, contains_node, is_port}

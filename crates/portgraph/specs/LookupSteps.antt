@@ -1,7 +1,7 @@
 -- What the code reads of a graph, said of the definitions: the entries that it reads are those of the lookups,
 -- and each way out of a lookup, of a link or of an unlink gives what the definition gives.
-use Rattle.std.specs.Prelude.{◌≡◌, Bool, false, cond, List, map, ℕ, ◌+◌, ◌-◌, ◌≤◌, ◌<◌, length, get_or, replicate, Option, Some, None, Result, Ok, Err}
-use Rattle.std.proofs.Common.{sym, ◌∙◌, arith, lt-ltb, le-ltb, eq-eqb, ne_eqb}
+use Rattle.std.specs.Prelude.{◌≡◌, Bool, false, cond, List, map, ℕ, ◌+◌, ◌-◌, ◌≤◌, length, get_or, replicate, Option, Some, None, Result, Ok, Err}
+use Rattle.std.proofs.Common.{sym, ◌∙◌, arith, eq-eqb, ne_eqb}
 use Rattle.std.proofs.Math.Path.{ap}
 use Rattle.std.proofs.lemmas.List.{length-map}
 use Rattle.std.proofs.Math.ListN.{get_or-eq_default}
@@ -10,13 +10,12 @@ use Rattle.port_tables.specs.Entries.{fresh_slot, port_entry, ports_on, same_sid
 use Rattle.port_tables.specs.Tables.{at, cut, link_both, link_count}
 use Rattle.port_tables.specs.TableSteps.{at_outside}
 use Rattle.portgraph.specs.Model.{Wf}
-use Rattle.portgraph.specs.Lookups.{meta_at, port_at, start_of, offset_in, offset_of, port_offset, port_in, port_link}
+use Rattle.portgraph.specs.Lookups.{meta_at, port_at, start_of, port_link}
 use Rattle.portgraph.specs.Calls.{new_graph, with_links, link_refused, link_free, link_entries, link_sides, link_ports, unlink_entry, unlink_port}
 use Rattle.port_tables.specs.ResizeLinks.{BlockFits}
 use Rattle.portgraph.specs.WfFacts.{block_fits}
 use Rattle.port_tables.specs.declared.direction.Direction.{Direction}
 use Rattle.port_tables.specs.declared.direction.Direction.TheVariants.{Incoming, Outgoing}
-use Rattle.port_tables.specs.declared.index.PortOffset.{PortOffset}
 use Rattle.port_tables.specs.declared.node_entry.NodeSlot.{NodeSlot}
 use Rattle.port_tables.specs.declared.node_entry.NodeMeta.{NodeMeta}
 use Rattle.port_tables.specs.declared.node_entry.NodeEntry.{NodeEntry}
@@ -61,9 +60,6 @@ pub node_outside : (l : List NodeSlot) (n w : ℕ) → length l ≡ node_slots �
 node_outside l n w long e h =
     ap (λ (s : NodeSlot). meta_of_entry s.entry) (sym (get_or-eq_default l fresh_slot {n = n} (omega arith)))
 
-pub node_read : (l : List NodeSlot) (n w : ℕ) (e : NodeEntry) → w ≡ n → (get_or l w fresh_slot).entry ≡ e → meta_of_entry e ≡ meta_of_entry (get_or l n fresh_slot).entry
-node_read l n w e hw he = ap meta_of_entry (sym he ∙ ap (λ (x : ℕ). (get_or l x fresh_slot).entry) hw)
-
 pub entry_of_meta : (e : NodeEntry) (m : NodeMeta) → Some m ≡ meta_of_entry e → e ≡ node_variants.Node m
 entry_of_meta (node_variants.Free f) m h = let z : ◌≡◌ {A = ℕ} 0 1 = cc in absurd (omega arith)
 entry_of_meta (node_variants.Node k) m h = cc
@@ -77,47 +73,11 @@ pub side_fits : (m : NodeMeta) (d : Direction) → BlockFits m → m.first_port.
 side_fits m Incoming f = let a = f.ends in let b = f.ports in omega arith
 side_fits m Outgoing f = let a = f.ends in let b = f.ports in omega arith
 
--- the owner that is read is the one that the table has
-pub port_read : (t : List ℕ) (p w a : ℕ) (e : PortEntry) → w ≡ p → a ≡ at t w → e ≡ port_entry a → e ≡ port_entry (at t p)
-port_read t p w a e hw ha he = he ∙ ap port_entry (ha ∙ ap (at t) hw)
-
 pub port_outside : (t : List ℕ) (p w : ℕ) → w ≡ p → port_slots ≤ w → port_variants.Free ≡ port_entry (at t p)
 unfolding port_entry
 port_outside t p w e h = ap port_entry (at_outside t p (omega arith))
 
--- Offsets.
-
-pub offset_found : (g : PortGraph) (p i : ℕ) (o : PortMeta) (m : NodeMeta) → port_variants.Port o ≡ port_at g p → Some m ≡ meta_at g o.node.0
-    → i ≡ p - m.first_port.0 - start_of m o.direction
-    → Some (record { direction = o.direction; index = i }) ≡ port_offset g p
-offset_found g p i o m ho hm hi =
-    ap (λ (x : ℕ). Some (record { direction = o.direction; index = x })) hi
-    ∙ ap (offset_in p o.direction) hm ∙ ap (offset_of g p) ho
-
-pub offset_without_node : (g : PortGraph) (p : ℕ) (o : PortMeta) → port_variants.Port o ≡ port_at g p → None ≡ meta_at g o.node.0
-    → None ≡ port_offset g p
-offset_without_node g p o ho hm = ap (offset_in p o.direction) hm ∙ ap (offset_of g p) ho
-
-pub index_outside : (g : PortGraph) (n i k : ℕ) (m : NodeMeta) (o : PortOffset) → Some m ≡ meta_at g n
-    → i ≡ o.index → k ≡ ports_on m o.direction → k ≤ i → None ≡ port_in (meta_at g n) o
-index_outside g n i k m o hm hi hk h =
-    let e : None ≡ port_in (Some m) o = rw (le-ltb o.index (ports_on m o.direction) (omega arith)) in
-    e ∙ ap (λ (x : Option NodeMeta). port_in x o) hm
-
-pub index_inside : (g : PortGraph) (n i k q : ℕ) (m : NodeMeta) (o : PortOffset) → Some m ≡ meta_at g n
-    → i ≡ o.index → k ≡ ports_on m o.direction → i < k → q ≡ m.first_port.0 + start_of m o.direction + i
-    → Some (port# q) ≡ port_in (meta_at g n) o
-index_inside g n i k q m o hm hi hk h hq =
-    let f : q ≡ m.first_port.0 + start_of m o.direction + o.index = omega arith in
-    let e : Some (port# q) ≡ port_in (Some m) o =
-    rw (lt-ltb o.index (ports_on m o.direction) (omega arith)) (ap (λ (x : ℕ). Some (port# x)) f) in
-    e ∙ ap (λ (x : Option NodeMeta). port_in x o) hm
-
 -- Links.
-
-pub link_unknown : (g : PortGraph) (a b : ℕ) → port_variants.Free ≡ port_at g a → link_refused g (Err (link_error.UnknownPort (port# a))) ≡ link_ports g a b
-unfolding link_ports
-link_unknown g a b e = ap (λ (x : PortEntry). link_entries g a b x (port_at g b)) e
 
 module _ (g : PortGraph) (a b : ℕ) (m k : PortMeta) (first : port_variants.Port m ≡ port_at g a) (second : port_variants.Port k ≡ port_at g b) where
   both_live : link_sides g a b m.direction k.direction ≡ link_ports g a b

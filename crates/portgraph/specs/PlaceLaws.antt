@@ -47,7 +47,7 @@ entry_of_owner n Outgoing =
     let h : (2 * n + 2 - 1) / 2 ≡ n = omega arith in
     rw (ne_eqb (2 * n + 2) 0 (λ e. omega arith), h, ne_eqb ((2 * n + 2 - 1) % 2) 0 (λ e. omega arith))
 
-entry_of_none : port_entry 0 ≡ port_variants.Free
+pub entry_of_none : port_entry 0 ≡ port_variants.Free
 unfolding port_entry
 entry_of_none = refl
 

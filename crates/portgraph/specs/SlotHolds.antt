@@ -21,7 +21,7 @@ use Rattle.portgraph.specs.Calls.{find_slot, rest_of, free_after, head_after, pl
 use Rattle.portgraph.specs.Sums.{all_links, one_link_less, links_after_recount}
 use Rattle.portgraph.specs.Chains.{length_put_head, slots_at_set_same, slots_at_set_other, set_prev_keeps_slots, length_set_prev, node_chain_pop, node_chain_push}
 use Rattle.portgraph.specs.LinkLaws.{Rep, rep_same, rep_weaken, rep_extend, rep_chain_vacant, far_number_is_far_is}
-use Rattle.portgraph.specs.GoodSlots.{gone_not_live, block_of_one, free_block_apart, slot_in_block, slot_in_range, slots_apart, hand_elim}
+use Rattle.portgraph.specs.GoodSlots.{gone_not_live, node_below, block_within, block_of_one, free_block_apart, slot_in_block, slot_in_range, slots_apart, hand_elim}
 use Rattle.portgraph.specs.GoodLaws.{good_add, good_remove, next_slot_gone}
 use Rattle.portgraph.specs.PlaceLaws.{idle_vacant, spare_vacant, rep_of}
 use Rattle.portgraph.specs.LinkHolds.{node_in_range}
@@ -276,17 +276,8 @@ module _ {g : PortGraph} {M : Model} (good : Good M) (h : Holds g M) (n : ℕ) (
   abbrev links_after : List ℕ
   links_after = chain_block cleared start m.capacity (head_at g.port_free m.capacity)
 
-  node_below : n < node_slots
-  node_below =
-      let u : n < M.node_len = good.node_used n m here in
-      let f : M.node_len ≤ node_slots = good.nodes_fit in
-      omega arith
-
   start_below : 0 < m.capacity → start < port_slots
-  start_below z =
-      let e : start + m.capacity ≤ M.port_len = good.block_ends n m here in
-      let f : M.port_len ≤ port_slots = good.ports_fit in
-      omega arith
+  start_below z = let e = block_within good n m here in omega arith
 
   -- what is left is of other nodes
   left_other : (i : ℕ) (k : NodeMeta) → without i ≡ live k → (i ≡ n → ⊥) × (M.node i ≡ live k)
@@ -329,10 +320,7 @@ module _ {g : PortGraph} {M : Model} (good : Good M) (h : Holds g M) (n : ℕ) (
   owners_left : (s : ℕ) → at (fill_range g.port_meta start m.capacity 0) s ≡ owner_of_who without (hand_over M.who start m.capacity (idle start m.capacity) s) s
   owners_left s =
       hand_elim (λ w. at (fill_range g.port_meta start m.capacity 0) s ≡ owner_of_who without w s) M.who start m.capacity (idle start m.capacity) s
-      (λ w.
-      let e : start + m.capacity ≤ M.port_len = good.block_ends n m here in
-      let f : M.port_len ≤ port_slots = good.ports_fit in
-      at_fill_in g.port_meta start m.capacity s 0 h.owners_long (omega arith) w.0 w.1)
+      (λ w. at_fill_in g.port_meta start m.capacity s 0 h.owners_long (block_within good n m here) w.0 w.1)
       (λ away.
       at_fill_outside g.port_meta start m.capacity s 0 (λ a b. away (a, b))
       ∙ (h.owners s ∙ sym (owner_of_other M.node n gone (M.who s) s (λ e. away (in_block e)))))
@@ -357,7 +345,7 @@ module _ {g : PortGraph} {M : Model} (good : Good M) (h : Holds g M) (n : ℕ) (
       let one : n + 1 ≡ suc n = omega arith in
       subst (λ (x : ℕ). NodeChain (set (set_prev g.node_meta x (n + 1)) n (free_slot_of 0 x)) 0 (n ∷ M.free_nodes)) (sym h.node_head)
       (subst (λ (x : ℕ). NodeChain (set (set_prev g.node_meta (number_of_first M.free_nodes) x) n (free_slot_of 0 (number_of_first M.free_nodes))) 0 (n ∷ M.free_nodes)) (sym one)
-      (node_chain_push g.node_meta n M.free_nodes h.nodes_long node_below (free_below good h) good.free_once
+      (node_chain_push g.node_meta n M.free_nodes h.nodes_long (node_below good n m here) (free_below good h) good.free_once
       (λ i. gone_not_live (good.free_gone n i) here) h.node_chain))
 
   links_left : g.link_count - cut_count g.port_link start m.capacity ≡ all_links without left
@@ -383,7 +371,7 @@ module _ {g : PortGraph} {M : Model} (good : Good M) (h : Holds g M) (n : ℕ) (
         port_len = h.port_len;
         nodes =
             nodes_after_set (set_prev g.node_meta g.node_free (n + 1)) M.node n (free_slot_of 0 g.node_free)
-            (let a = node_below in let b = length_set_prev g.node_meta g.node_free (n + 1) in let c = h.nodes_long in omega arith)
+            (let a = node_below good n m here in let b = length_set_prev g.node_meta g.node_free (n + 1) in let c = h.nodes_long in omega arith)
             (λ i. set_prev_keeps_slots g.node_meta g.node_free (n + 1) i ∙ h.nodes i);
         node_head = omega arith;
         node_chain = node_chain_left;
@@ -392,12 +380,12 @@ module _ {g : PortGraph} {M : Model} (good : Good M) (h : Holds g M) (n : ℕ) (
         links = λ x v. rep_left.links x v ∙ sym (far_number_is_far_is without (left x));
         spare = spare_left;
         node_count =
-            let c = total_after M.node n gone is_live node_below in
+            let c = total_after M.node n gone is_live (node_below good n m here) in
             let k : is_live (M.node n) ≡ 1 = ap is_live here in
             let e = h.node_count in
             omega arith;
         port_count =
-            let c = total_after M.node n gone ports_of node_below in
+            let c = total_after M.node n gone ports_of (node_below good n m here) in
             let k : ports_of (M.node n) ≡ m.incoming + m.outgoing = ap ports_of here in
             let e = h.port_count in
             omega arith;

@@ -6,7 +6,7 @@ use Rattle.std.proofs.lemmas.Bool.{eqb-false}
 use Rattle.port_tables.specs.Limits.{node_slots, node_ports}
 use Rattle.portgraph.specs.Model.{Far, nowhere, to, Slots, total, count_of, Valid, is_linked, out_place, links_out, InnerPlace}
 use Rattle.portgraph.specs.Meaning.{same_place, drop_join, link_join}
-use Rattle.portgraph.specs.Joins.{to_once, drop_elsewhere, drop_unlinked, Joined, far_valid}
+use Rattle.portgraph.specs.Joins.{to_same, drop_elsewhere, drop_unlinked, Joined, far_valid}
 pub use Rattle.portgraph.specs.Joins.{upd_same, upd_other, same_side_refl, same_side_true, same_side_false, same_side_distinct, place_by_parts, same_place_refl, same_place_true, same_place_false, same_place_distinct, place_cases, drop_here, drop_there, drop_nowhere, drop_kept, drop_joined, link_near, link_far, link_other, drop_elsewhere as cut_elsewhere}
 use Rattle.port_tables.specs.declared.direction.Direction.{Direction}
 use Rattle.port_tables.specs.declared.direction.Direction.TheVariants.{Incoming, Outgoing}
@@ -148,7 +148,7 @@ module _ (node : ℕ → Slots) (join : InnerPlace → Far) (below : (z : InnerP
   cut_counts_one l x y j =
       sym
       (pair_counts node (drop_join (same_place x) join) join x y (l.sides x y j) vx vy (below x vx) (below y vy)
-      (λ z a b. drop_elsewhere join x z a (λ e. b (to_once (l.back z x e) j)))
+      (λ z a b. drop_elsewhere join x z a (λ e. b (to_same (l.back z x e) j)))
       (drop_here (same_place x) join x (same_place_refl x))
       (drop_there (same_place x) join y x (l.back x y j) (same_place_refl x))
       j

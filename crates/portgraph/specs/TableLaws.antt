@@ -1,19 +1,19 @@
 -- Laws of the port tables: what a slot holds after a number is stored, a range is filled, or a block gets its owners.
 -- No step changes a table's length.
-use Rattle.std.specs.Prelude.{◌≡◌, Bool, List, [], ◌∷◌, ℕ, zero, suc, ◌+◌, ◌≤◌, ◌<◌, eqb, leb, length, get_or, set}
+use Rattle.std.specs.Prelude.{◌≡◌, Bool, List, ℕ, zero, suc, ◌+◌, ◌≤◌, ◌<◌, eqb, leb, length, get_or, set}
 use Rattle.std.proofs.Math.Path.{refl}
 use Rattle.std.proofs.Common.{sym, ◌∙◌, arith, length-set, get_or-set_same, get_or-set_other}
 use Rattle.std.proofs.Math.Bool.{true, false, cond}
 use Rattle.std.proofs.Math.Dec.{ltb}
 use Rattle.std.proofs.Math.ListN.{get_or-eq_default}
-use borrow.Author.Tests.{ltb-true, ltb-false, eqb-false, lt-ltb, le-ltb, le-leb, ne_eqb}
+use borrow.Author.Tests.{ltb-true, ltb-false, eqb-false, lt-ltb, le-leb, ne_eqb}
 use Rattle.port_tables.specs.Limits.{port_slots}
 use Rattle.port_tables.specs.Entries.{owner_number}
 use Rattle.port_tables.specs.Tables.{at, put, fill, fill_range, own_block, link_both, cut_far, cut, cut_range, relink, move_port, move_up, move_down, shift, transfer, chain_block}
 use Rattle.portgraph.specs.Model.{owner_in_block}
 use Rattle.port_tables.specs.declared.direction.Direction.TheVariants.{Incoming, Outgoing}
 use Rattle.port_tables.specs.declared.node_entry.NodeMeta.{NodeMeta}
-use Rattle.port_tables.specs.TableSteps.{length_fill}
+use Rattle.port_tables.specs.TableSteps.{length_fill, at_inside, at_outside, get_d_fill_in, get_d_fill_out}
 
 -- Lengths.
 
@@ -81,22 +81,14 @@ length_chain_block t first size head = length_cond (eqb size 0) t t _ refl (leng
 
 -- One slot.
 
-pub at_outside : (t : List ℕ) (s : ℕ) → port_slots ≤ s → at t s ≡ 0
-unfolding at
-at_outside t s h = rw (le-ltb s port_slots h)
-
-pub at_inside : (t : List ℕ) (s : ℕ) → s < port_slots → at t s ≡ get_or t s 0
-unfolding at
-at_inside t s h = rw (lt-ltb s port_slots h)
-
 pub at_is_get_d : (t : List ℕ) → length t ≡ port_slots → (s : ℕ) → at t s ≡ get_or t s 0
 at_is_get_d t long s = go (ltb s port_slots) refl
   where
     go : (b : Bool) → ltb s port_slots ≡ b → at t s ≡ get_or t s 0
-    go true e = at_inside t s (ltb-true s port_slots e)
+    go true e = sym (at_inside t s (ltb-true s port_slots e))
     go false e =
         let h : port_slots ≤ s = ltb-false s port_slots e in
-        at_outside t s h ∙ sym (get_or-eq_default t 0 (omega arith))
+        sym (get_or-eq_default t 0 (omega arith) ∙ at_outside t s h)
 
 pub at_put_same : (t : List ℕ) (s v : ℕ) → length t ≡ port_slots → s < port_slots → at (put t s v) s ≡ v
 unfolding at put
@@ -114,35 +106,10 @@ at_put_other t s r v apart = go (ltb s port_slots) (ltb r port_slots)
 
 -- Ranges.
 
-get_d_fill_in : (t : List ℕ) (i n s v : ℕ) → i ≤ s → s < i + n → s < length t → get_or (fill t i n v) s 0 ≡ v
-unfolding fill
-get_d_fill_in [] i n s v h k l = absurd (omega arith)
-get_d_fill_in (x ∷ t) zero zero s v h k l = absurd (omega arith)
-get_d_fill_in (x ∷ t) zero (suc n) zero v h k l = refl
-get_d_fill_in (x ∷ t) zero (suc n) (suc s) v h k l = get_d_fill_in t zero n s v (omega arith) (omega arith) (omega arith)
-get_d_fill_in (x ∷ t) (suc i) n zero v h k l = absurd (omega arith)
-get_d_fill_in (x ∷ t) (suc i) n (suc s) v h k l = get_d_fill_in t i n s v (omega arith) (omega arith) (omega arith)
-
-get_d_fill_before : (t : List ℕ) (i n s v : ℕ) → s < i → get_or (fill t i n v) s 0 ≡ get_or t s 0
-unfolding fill
-get_d_fill_before [] i n s v h = refl
-get_d_fill_before (x ∷ t) zero n s v h = absurd (omega arith)
-get_d_fill_before (x ∷ t) (suc i) n zero v h = refl
-get_d_fill_before (x ∷ t) (suc i) n (suc s) v h = get_d_fill_before t i n s v (omega arith)
-
-get_d_fill_after : (t : List ℕ) (i n s v : ℕ) → i + n ≤ s → get_or (fill t i n v) s 0 ≡ get_or t s 0
-unfolding fill
-get_d_fill_after [] i n s v h = refl
-get_d_fill_after (x ∷ t) zero zero s v h = refl
-get_d_fill_after (x ∷ t) zero (suc n) zero v h = absurd (omega arith)
-get_d_fill_after (x ∷ t) zero (suc n) (suc s) v h = get_d_fill_after t zero n s v (omega arith)
-get_d_fill_after (x ∷ t) (suc i) n zero v h = absurd (omega arith)
-get_d_fill_after (x ∷ t) (suc i) n (suc s) v h = get_d_fill_after t i n s v (omega arith)
-
 pub at_fill_in : (t : List ℕ) (i n s v : ℕ) → length t ≡ port_slots → i + n ≤ port_slots → i ≤ s → s < i + n → at (fill_range t i n v) s ≡ v
 unfolding at fill_range
 at_fill_in t i n s v long fits h k =
-    rw (lt-ltb s port_slots (omega arith), le-leb (i + n) port_slots fits) (get_d_fill_in t i n s v h k (omega arith))
+    rw (lt-ltb s port_slots (omega arith), le-leb (i + n) port_slots fits) (get_d_fill_in t i n s v 0 (omega arith) h k)
 
 -- a range leaves a slot alone where filling the list does
 at_fill_kept : (t : List ℕ) (i n s v : ℕ) → get_or (fill t i n v) s 0 ≡ get_or t s 0 → at (fill_range t i n v) s ≡ at t s
@@ -156,10 +123,10 @@ at_fill_kept t i n s v e = go (leb (i + n) port_slots) (ltb s port_slots)
     go false false = refl
 
 pub at_fill_before : (t : List ℕ) (i n s v : ℕ) → s < i → at (fill_range t i n v) s ≡ at t s
-at_fill_before t i n s v h = at_fill_kept t i n s v (get_d_fill_before t i n s v h)
+at_fill_before t i n s v h = at_fill_kept t i n s v (get_d_fill_out t i n s v 0 (λ a b. omega arith))
 
 pub at_fill_after : (t : List ℕ) (i n s v : ℕ) → i + n ≤ s → at (fill_range t i n v) s ≡ at t s
-at_fill_after t i n s v h = at_fill_kept t i n s v (get_d_fill_after t i n s v h)
+at_fill_after t i n s v h = at_fill_kept t i n s v (get_d_fill_out t i n s v 0 (λ a b. omega arith))
 
 pub at_fill_outside : (t : List ℕ) (i n s v : ℕ) → (i ≤ s → s < i + n → ⊥) → at (fill_range t i n v) s ≡ at t s
 at_fill_outside t i n s v out = go (ltb s i) refl

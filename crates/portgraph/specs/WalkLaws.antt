@@ -29,6 +29,7 @@ use Rattle.portgraph.specs.declared.iter.NodePortOffsets.{NodePortOffsets}
 use Rattle.port_tables.specs.declared.index.NodeIndex.{NodeIndex}
 use Rattle.port_tables.specs.declared.index.PortIndex.{PortIndex}
 use Rattle.portgraph.specs.declared.iter.Nodes.{Nodes}
+use Rattle.port_tables.specs.Listing.{range_none}
 
 -- What a walk of several steps gives: its items, and whether it came to its end.
 pub record Walked (A : Type 0) : Type 0 where
@@ -146,7 +147,7 @@ pub some_is_node : (e : NodeEntry) → is_some (meta_of_entry e) ≡ is_node e
 some_is_node (Free f) = refl
 some_is_node (Node m) = refl
 
-one_less : (n : ℕ) → suc n - 1 ≡ n
+pub one_less : (n : ℕ) → suc n - 1 ≡ n
 one_less n = omega arith
 
 -- the cursor after a node or a port holds that one
@@ -283,10 +284,6 @@ numbers_on : (p k j : ℕ) → k ≡ suc j → range p k ≡ p ∷ range (suc p)
 unfolding range
 numbers_on p k j e = rw e
 
-no_numbers : (p k : ℕ) → k ≡ 0 → range p k ≡ []
-unfolding range
-no_numbers p k e = rw e
-
 -- a step of a walk over a live node's ports, from a position that is still there
 pub step_of_node : (g : PortGraph) (c : NodePorts) (m : NodeMeta) → meta_at g c.node.0 ≡ Some m → port_held g c.held ≡ true → step_ports g c ≡ ports_item c.node.0 c.sides (max (ports_from m c.sides) c.held) (ports_to m c.sides)
 unfolding step_ports
@@ -325,7 +322,7 @@ module _ (g : PortGraph) (n : ℕ) (sides : Sides) (m : NodeMeta) (node : meta_a
       go false t rest =
           let a : ports_to m sides ≤ p = ltb-false _ _ t in
           to_step None (item_beyond n sides p (ports_to m sides) a) ∙
-          ap whole (sym (no_numbers p (ports_to m sides - p) (omega arith)))
+          ap whole (sym (range_none p (ports_to m sides - p) (omega arith)))
 
 -- the ports on these sides lie within the node's ports
 ports_within : (m : NodeMeta) (sides : Sides) (p : ℕ) → ports_from m sides ≤ p → p < ports_to m sides → (m.first_port.0 ≤ p) × (p < m.first_port.0 + (m.incoming + m.outgoing))
@@ -377,9 +374,6 @@ owner_in_block_lem n m p l = go (ltb p (m.first_port.0 + m.incoming))
     go false = rw (lt-ltb p (m.first_port.0 + (m.incoming + m.outgoing)) l)
 
 module _ (g : PortGraph) (M : Model) (good : Good M) (holds : Holds g M) (n : ℕ) (m : NodeMeta) (node : M.node n ≡ live m) where
-  live_meta : meta_at g n ≡ Some m
-  live_meta = meta_of_node good holds n m node
-
   -- each slot from a live node's first port to its last is a port of that node
   port_of_node : (p : ℕ) → m.first_port.0 ≤ p → p < m.first_port.0 + (m.incoming + m.outgoing) → port_at g p ≡ Port (record { node = node# n; direction = side_at m p })
   port_of_node p a b =
@@ -392,12 +386,12 @@ module _ (g : PortGraph) (M : Model) (good : Good M) (holds : Holds g M) (n : �
   ports_alive p a b = ap is_port (port_of_node p a b)
 
   pub offset_of_port : (p : ℕ) → m.first_port.0 ≤ p → p < m.first_port.0 + (m.incoming + m.outgoing) → port_offset g p ≡ Some (offset_at m p)
-  offset_of_port p a b = ap (offset_of g p) (port_of_node p a b) ∙ ap (offset_in p (side_at m p)) live_meta
+  offset_of_port p a b = ap (offset_of g p) (port_of_node p a b) ∙ ap (offset_in p (side_at m p)) (meta_of_node good holds n m node)
 
   -- from any position that is still there a walk gives the rest of the node's ports, and ends
   pub walk_gives_rest_of_ports : (sides : Sides) (fuel held : ℕ) → ports_to m sides - max (ports_from m sides) held < fuel → port_held g held ≡ true → walk_ports g fuel (ports_cursor n sides held) ≡ whole (range (max (ports_from m sides) held) (ports_to m sides - max (ports_from m sides) held))
   walk_gives_rest_of_ports sides fuel held l h =
-      ports_rest g n sides m live_meta (λ p a b. let w = ports_within m sides p a b in ports_alive p w.0 w.1) fuel held (max (ports_from m sides) held) refl l h
+      ports_rest g n sides m (meta_of_node good holds n m node) (λ p a b. let w = ports_within m sides p a b in ports_alive p w.0 w.1) fuel held (max (ports_from m sides) held) refl l h
 
   -- from the start: all ports of the node on these sides, in order, and then the end
   pub walk_gives_all_ports : (sides : Sides) → walk_ports g (node_ports + 1) (ports_cursor n sides 0) ≡ whole (ports_of_node m sides)
@@ -405,7 +399,7 @@ module _ (g : PortGraph) (M : Model) (good : Good M) (holds : Holds g M) (n : �
       let cap = good.ports_in_block n m node in
       let small = good.block_small n m node in
       let few = ports_few m sides in
-      ports_rest g n sides m live_meta (λ p a b. let w = ports_within m sides p a b in ports_alive p w.0 w.1) (node_ports + 1) 0 (ports_from m sides) (omega arith) (omega arith) refl
+      ports_rest g n sides m (meta_of_node good holds n m node) (λ p a b. let w = ports_within m sides p a b in ports_alive p w.0 w.1) (node_ports + 1) 0 (ports_from m sides) (omega arith) (omega arith) refl
 
   -- Offsets: the same walk, with the offset of each port.
 
@@ -420,9 +414,9 @@ module _ (g : PortGraph) (M : Model) (good : Good M) (holds : Holds g M) (n : �
       go false h l e = inl (step_where_port_gone g (ports_cursor n sides held) h)
       go true h true e =
           let a : max (ports_from m sides) held < ports_to m sides = ltb-true _ _ e in
-          inr (max (ports_from m sides) held, step_of_node g (ports_cursor n sides held) m live_meta h ∙ item_there n sides (max (ports_from m sides) held) (ports_to m sides) a, omega arith, a)
+          inr (max (ports_from m sides) held, step_of_node g (ports_cursor n sides held) m (meta_of_node good holds n m node) h ∙ item_there n sides (max (ports_from m sides) held) (ports_to m sides) a, omega arith, a)
       go true h false e =
-          inl (step_of_node g (ports_cursor n sides held) m live_meta h ∙ item_beyond n sides (max (ports_from m sides) held) (ports_to m sides) (ltb-false _ _ e))
+          inl (step_of_node g (ports_cursor n sides held) m (meta_of_node good holds n m node) h ∙ item_beyond n sides (max (ports_from m sides) held) (ports_to m sides) (ltb-false _ _ e))
 
   -- a walk over the offsets gives the offset of each port that the walk over the ports gives, and ends with it
   pub offsets_walk_with_ports : (sides : Sides) (fuel held : ℕ) → walk_offsets g fuel (record { ports = ports_cursor n sides held }) ≡ each_offset m (walk_ports g fuel (ports_cursor n sides held))

@@ -7,6 +7,7 @@ use Rattle.port_tables.specs.Tables.{head_at}
 use Rattle.portgraph.specs.Lookups.{entry_at}
 use Rattle.portgraph.specs.Model.{Wf, Slots, gone, live, slots_of_entry, number_of_first, Chain, count_of, ports_of, is_live}
 use Rattle.port_tables.specs.ResizeLinks.{BlockFits}
+use Rattle.portgraph.specs.GoodSlots.{node_below, block_within}
 use Rattle.portgraph.specs.Sums.{total_bound, links_bound}
 use Rattle.portgraph.specs.Parts.{Resizes}
 use Rattle.port_tables.specs.declared.direction.Direction.TheVariants.{Outgoing}
@@ -22,15 +23,7 @@ module _ (g : PortGraph) (w : Wf g) where
   pub block_fits : (n : ℕ) (m : NodeMeta) → entry_at g n ≡ node_variants.Node m → BlockFits m
   block_fits n m e =
       let h = node_of_entry n m e in
-      let ends = w.good.block_ends n m h in
-      let all = w.good.ports_fit in
-      record { ends = omega arith; ports = w.good.ports_in_block n m h; small = w.good.block_small n m h }
-
-  pub node_below : (n : ℕ) (m : NodeMeta) → entry_at g n ≡ node_variants.Node m → n < node_slots
-  node_below n m e =
-      let used = w.good.node_used n m (node_of_entry n m e) in
-      let all = w.good.nodes_fit in
-      omega arith
+      record { ends = block_within w.good n m h; ports = w.good.ports_in_block n m h; small = w.good.block_small n m h }
 
   pub node_len_fits : g.node_len ≤ node_slots
   node_len_fits = let e = w.holds.node_len in let h = w.good.nodes_fit in omega arith
@@ -104,7 +97,7 @@ resizes g w n m i o e few =
       live = e;
       few = few;
       fits = block_fits g w n m e;
-      below = node_below g w n m e;
+      below = node_below w.good n m (node_of_entry g w n m e);
       used = port_len_fits g w;
       counted = port_count_fits g w;
     }

@@ -148,7 +148,7 @@ impl PortGraph {
     }
 
     // The same in place.
-    #[tactic(auto, unfolding(crate::specs::Calls::add_node_under))]
+    #[tactic(auto, unfolding(crate::specs::Calls::add_node_under, crate::specs::Calls::place_node), using(crate::specs::SlotSteps::node_slot_fits, crate::specs::SlotSteps::new_block_fits, crate::specs::SlotSteps::found_slot_rest, crate::specs::SlotSteps::found_block_rest, crate::specs::SlotSteps::stores_after, crate::specs::WfFacts::node_count_fits, crate::specs::WfFacts::port_count_fits))]
     pub fn add_node_lent(
         &mut self,
         incoming: usize,
@@ -194,7 +194,7 @@ impl PortGraph {
     }
 
     // The same in place.
-    #[tactic(auto, unfolding(crate::specs::Calls::remove_node))]
+    #[tactic(auto, unfolding(crate::specs::Calls::remove_node, crate::specs::Calls::free_node), using(port_tables::specs::Limits::neighbours_fit, crate::specs::LookupSteps::found_block_fits, crate::specs::SlotSteps::stores_after, crate::specs::WfFacts::node_free_fits))]
     pub fn remove_node_lent(&mut self, node: NodeIndex) -> Result<(), NoSuchNode>
         requires { Wf self.old }
         ensures { (self.new ≡ (remove_node self.old node.0).graph)

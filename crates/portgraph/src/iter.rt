@@ -34,15 +34,15 @@ pub struct NodePortOffsets {
 
 impl PortGraph {
     // Starts a walk over the nodes.
-    pub fn nodes_iter(self) -> Nodes
+    pub fn nodes_iter(&self) -> Nodes
         ensures { result.held ≡ 0 }
     {
         Nodes { held: 0 }
     }
 
     // Starts a walk over the ports of a node on one side or both.
-    pub fn ports(self, node: NodeIndex, sides: Sides) -> Result<NodePorts, NoSuchNode>
-        ensures { (result ≡ start_ports self node sides) × (ports_start_numbers result ≡ ports_start_numbers (start_ports self node sides)) }
+    pub fn ports(&self, node: NodeIndex, sides: Sides) -> Result<NodePorts, NoSuchNode>
+        ensures { (result ≡ start_ports self.now node sides) × (ports_start_numbers result ≡ ports_start_numbers (start_ports self.now node sides)) }
     {
         self.node_meta_valid(node).ok_or(NoSuchNode)?;
         Ok(NodePorts {
@@ -53,16 +53,16 @@ impl PortGraph {
     }
 
     // Starts a walk over the port offsets of a node on one side or both.
-    pub fn port_offsets(self, node: NodeIndex, sides: Sides) -> Result<NodePortOffsets, NoSuchNode>
-        ensures { (result ≡ start_offsets self node sides) × (offsets_start_numbers result ≡ offsets_start_numbers (start_offsets self node sides)) }
+    pub fn port_offsets(&self, node: NodeIndex, sides: Sides) -> Result<NodePortOffsets, NoSuchNode>
+        ensures { (result ≡ start_offsets self.now node sides) × (offsets_start_numbers result ≡ offsets_start_numbers (start_offsets self.now node sides)) }
     {
         let ports = self.ports(node, sides)?;
         Ok(NodePortOffsets { ports })
     }
 
     // Whether the node that a cursor holds is still there.
-    fn node_held(self, held: u32) -> bool
-        ensures { result ≡ node_held self held }
+    fn node_held(&self, held: u32) -> bool
+        ensures { result ≡ node_held self.now held }
     {
         held.checked_sub(1)
             .is_none_or(|n| self.contains_node(NodeIndex(n)))
@@ -70,6 +70,7 @@ impl PortGraph {
 }
 
 impl Nodes {
+    #[tactic(auto, using(crate::specs::WalkLaws::step_where_gone))]
     pub fn step(self, graph: &PortGraph) -> Option<(NodeIndex, Nodes)>
         ensures { (result ≡ step_nodes graph.now self.held) × (nodes_step_numbers result ≡ nodes_step_numbers (step_nodes graph.now self.held)) }
     {
@@ -82,6 +83,7 @@ impl Nodes {
 }
 
 impl NodePorts {
+    #[tactic(auto, using(crate::specs::LinkWalkSteps::left_fits, crate::specs::LinkWalkSteps::port_gone, crate::specs::LinkWalkSteps::port_over, crate::specs::LinkWalkSteps::port_given))]
     pub fn step(self, graph: &PortGraph) -> Option<(PortIndex, NodePorts)>
         requires { Wf graph.now }
         ensures { (result ≡ step_ports graph.now self) × (ports_step_numbers result ≡ ports_step_numbers (step_ports graph.now self)) }

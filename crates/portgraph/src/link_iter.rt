@@ -195,12 +195,12 @@ fn link_at(links: &[u32; PORT_SLOTS], port: usize) -> Link
 impl PortGraph {
     // Starts a walk over the links of a node on one side or both, without those to a range of ports.
     pub fn links(
-        self,
+        &self,
         node: NodeIndex,
         sides: Sides,
         skip: PortRange,
     ) -> Result<NodeLinks, NoSuchNode>
-        ensures { (result ≡ start_links self node sides skip) × (links_start_numbers result ≡ links_start_numbers (start_links self node sides skip)) }
+        ensures { (result ≡ start_links self.now node sides skip) × (links_start_numbers result ≡ links_start_numbers (start_links self.now node sides skip)) }
     {
         self.node_meta_valid(node).ok_or(NoSuchNode)?;
         Ok(NodeLinks {
@@ -213,12 +213,12 @@ impl PortGraph {
 
     // Starts a walk over the neighbours of a node on one side or both.
     pub fn neighbours(
-        self,
+        &self,
         node: NodeIndex,
         sides: Sides,
         ignore_self: bool,
     ) -> Result<Neighbours, NoSuchNode>
-        ensures { (result ≡ start_neighbours self node sides ignore_self) × (neighbours_start_numbers result ≡ neighbours_start_numbers (start_neighbours self node sides ignore_self)) }
+        ensures { (result ≡ start_neighbours self.now node sides ignore_self) × (neighbours_start_numbers result ≡ neighbours_start_numbers (start_neighbours self.now node sides ignore_self)) }
     {
         self.node_meta_valid(node).ok_or(NoSuchNode)?;
         Ok(Neighbours {
@@ -231,11 +231,11 @@ impl PortGraph {
 
     // Starts a walk over the links from one node's outgoing side to another node.
     pub fn get_connections(
-        self,
+        &self,
         from: NodeIndex,
         to: NodeIndex,
     ) -> Result<NodeConnections, NoSuchNode>
-        ensures { (result ≡ start_connections self from to) × (connections_start_numbers result ≡ connections_start_numbers (start_connections self from to)) }
+        ensures { (result ≡ start_connections self.now from to) × (connections_start_numbers result ≡ connections_start_numbers (start_connections self.now from to)) }
     {
         self.node_meta_valid(from).ok_or(NoSuchNode)?;
         self.node_meta_valid(to).ok_or(NoSuchNode)?;
@@ -247,7 +247,7 @@ impl PortGraph {
     }
 
     // Starts a walk over all ports.
-    pub fn ports_iter(self) -> Ports
+    pub fn ports_iter(&self) -> Ports
         ensures { result.held ≡ 0 }
     {
         Ports { held: 0 }
@@ -255,6 +255,7 @@ impl PortGraph {
 }
 
 impl NodeLinks {
+    #[tactic(auto, unfolding(crate::specs::LinkWalks::step_links), using(crate::specs::LinkWalkSteps::left_fits, crate::specs::LinkWalkSteps::step_gone, crate::specs::LinkWalkSteps::step_over, crate::specs::LinkWalkSteps::step_given))]
     pub fn step(self, graph: &PortGraph) -> Option<(Link, NodeLinks)>
         requires { Wf graph.now }
         ensures { (result ≡ step_links graph.now self) × (links_numbers result ≡ links_numbers (step_links graph.now self)) }
@@ -273,6 +274,7 @@ impl NodeLinks {
 }
 
 impl Neighbours {
+    #[tactic(auto, unfolding(crate::specs::LinkWalks::step_neighbours), using(crate::specs::LinkWalkSteps::left_fits, crate::specs::LinkWalkSteps::own_left, crate::specs::LinkWalkSteps::step_gone, crate::specs::LinkWalkSteps::step_over, crate::specs::LinkWalkSteps::step_given))]
     pub fn step(self, graph: &PortGraph) -> Option<(NodeIndex, Neighbours)>
         requires { Wf graph.now }
         ensures { (result ≡ step_neighbours graph.now self) × (neighbours_numbers result ≡ neighbours_numbers (step_neighbours graph.now self)) }
@@ -293,6 +295,7 @@ impl Neighbours {
 }
 
 impl NodeConnections {
+    #[tactic(auto, unfolding(crate::specs::LinkWalks::step_connections), using(crate::specs::LinkWalkSteps::left_fits, crate::specs::LinkWalkSteps::step_gone, crate::specs::LinkWalkSteps::step_over, crate::specs::LinkWalkSteps::step_given))]
     pub fn step(self, graph: &PortGraph) -> Option<(Link, NodeConnections)>
         requires { Wf graph.now }
         ensures { (result ≡ step_connections graph.now self) × (connections_numbers result ≡ connections_numbers (step_connections graph.now self)) }
@@ -311,6 +314,7 @@ impl NodeConnections {
 }
 
 impl Ports {
+    #[tactic(auto, using(crate::specs::LinkWalkSteps::ports_gone, crate::specs::LinkWalkSteps::ports_given, crate::specs::LinkWalkSteps::ports_over, crate::specs::LinkWalkSteps::stopped, crate::specs::LinkWalkSteps::not_stopped))]
     pub fn step(self, graph: &PortGraph) -> Option<(PortIndex, Ports)>
         ensures { (result ≡ step_all_ports graph.now self) × (all_ports_numbers result ≡ all_ports_numbers (step_all_ports graph.now self)) }
     {

@@ -37,6 +37,7 @@ pub struct PortsSet {
 
 impl PortGraph {
     // Gives a node other counts within its block, and answers how many events are told.
+    #[tactic(auto, unfolding(crate::specs::Resize::resize_inside, crate::specs::Resize::inside_told), using(crate::specs::ResizeSteps::told_on, crate::specs::ResizeSteps::length_drop_told))]
     fn resize_ports_inplace(&mut self, node: NodeIndex, resize: Resize, moves: &mut [u32]) -> usize
         requires { Wf self.old × (node.0 < node_slots) × (resize.incoming + resize.outgoing ≤ resize.meta.capacity) × BlockFits resize.meta }
         ensures { (self.new ≡ (set_by self.old node.0 resize.incoming resize.outgoing (inside resize.meta)).graph)
@@ -60,6 +61,7 @@ impl PortGraph {
     }
 
     // Gives a node other counts in a new block, and answers how many events are told; only then its old block is free.
+    #[tactic(auto, unfolding(crate::specs::Resize::resize_anew, crate::specs::Resize::anew_told, port_tables::specs::Tables::shift_events), using(crate::specs::ResizeSteps::room_found, crate::specs::ResizeSteps::told_on_both, crate::specs::ResizeSteps::length_drop_told, crate::specs::ResizeSteps::length_move_up_events, crate::specs::SlotSteps::found_block_rest, crate::specs::WfFacts::port_len_fits, crate::specs::WfFacts::port_count_fits))]
     fn resize_ports_anew(
         &mut self,
         node: NodeIndex,
@@ -124,7 +126,7 @@ impl PortGraph {
     }
 
     // The same in place.
-    #[tactic(auto, unfolding(crate::specs::Resize::set_num_ports_under, crate::specs::Resize::plan_of_under, crate::specs::Resize::moves_after_under))]
+    #[tactic(auto, unfolding(crate::specs::Resize::set_num_ports_under, crate::specs::Resize::plan_of_under, crate::specs::Resize::moves_after_under), using(crate::specs::LookupSteps::entry_of_meta, crate::specs::LookupSteps::found_block_fits, crate::specs::WfFacts::port_len_fits, crate::specs::WfFacts::port_count_fits))]
     pub fn set_num_ports_lent(
         &mut self,
         node: NodeIndex,
@@ -154,6 +156,7 @@ impl PortGraph {
     }
 
     // Gives a node with these meta data other counts. What moves is told as far as the list goes: of an empty one nothing.
+    #[tactic(auto, using(crate::specs::ResizeSteps::round_up_fits, crate::specs::ResizeSteps::fits_below))]
     fn resize_told(
         &mut self,
         node: NodeIndex,
@@ -189,7 +192,7 @@ impl PortGraph {
 
     // set_num_ports in place, for a caller who reads no move list: what it gives for one that is long enough.
     // Stays beside `set_num_ports_lent`, which refuses a short list between what both begin with and what both end with; no plainer.
-    #[tactic(auto, unfolding(crate::specs::Resize::set_num_ports_under, crate::specs::Resize::plan_of_under))]
+    #[tactic(auto, unfolding(crate::specs::Resize::set_num_ports_under, crate::specs::Resize::plan_of_under), using(crate::specs::LookupSteps::entry_of_meta, crate::specs::LookupSteps::found_block_fits, crate::specs::WfFacts::port_len_fits, crate::specs::WfFacts::port_count_fits))]
     pub fn set_num_ports_quiet_lent(
         &mut self,
         node: NodeIndex,

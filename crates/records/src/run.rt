@@ -23,6 +23,7 @@ pub(crate) fn run_list(requests: &[u8], answers: &mut [u8])
 }
 
 // Whether a list is one of whole requests, with as much space for the answers.
+#[tactic(auto, unfolding(crate::specs::Run::list_taken))]
 fn list_taken<'a>(requests: &'a [u8], answers: &'a [u8]) -> bool
     ensures { result ≡ list_taken requests.now answers.now }
 {

@@ -4,6 +4,7 @@ ghost use Rattle.std.proofs.lemmas.List.Edits.{sets};
 ghost use Rattle.records.specs.Words.{word_at, bytes_of};
 
 // The word at a byte position.
+#[tactic(auto, unfolding(crate::specs::Words::word_at))]
 pub(crate) fn word_at(bytes: &[u8], i: usize) -> u32
     requires { i + 4 ≤ length bytes.now }
     ensures { result ≡ word_at bytes.now i }

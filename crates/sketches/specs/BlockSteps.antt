@@ -2,7 +2,7 @@
 use Rattle.std.specs.Prelude.{◌≡◌, refl, Bool, true, false, cond, ◌||◌, List, ◌∷◌, map, ℕ, suc, ◌+◌, ◌≤◌, ◌<◌, leb, ltb, length, Result, Ok, Err}
 use Rattle.std.proofs.Common.{sym, ap, ◌∙◌, subst, add-one, arith, le-leb, lt-ltb, le-ltb, leb-false}
 use Rattle.std.proofs.lemmas.Bool.{or_parts, lt-leb}
-use Rattle.port_tables.specs.Lists.{filter}
+use Rattle.std.specs.List.{filter}
 use Rattle.port_tables.specs.Limits.{node_slots, port_slots, node_ports}
 use Rattle.port_tables.specs.Listing.{length_map}
 use Rattle.sketches.specs.Plan.{PlanBlock, Plan, has_block, is_there, ports_in_all}

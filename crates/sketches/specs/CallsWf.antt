@@ -6,16 +6,17 @@ use Rattle.std.proofs.Math.Bool.{true, false, cond}
 use mathlib.Core.List.{List, [], ◌∷◌, map}
 use Rattle.std.proofs.Math.Dec.{eqb}
 use borrow.Author.Tests.{eqb-true, eqb-false, eq-eqb, ne_eqb, leb-false, ltb-false, not-true}
-use Rattle.port_tables.specs.Lists.{filter, Member}
+use Rattle.port_tables.specs.Lists.{Member}
+use Rattle.std.specs.List.{filter}
 use Rattle.port_tables.specs.Limits.{node_slots, port_slots, node_ports}
 use Rattle.port_tables.specs.Entries.{new_count}
 use Rattle.port_tables.specs.declared.direction.Direction.{Direction}
 use Rattle.port_tables.specs.declared.direction.Direction.TheVariants.{Incoming, Outgoing}
 use Rattle.port_tables.specs.Places.{Place, Wire, Spot, at_spot, at_end, of_node, of_dropped, touches, wire_of_sides, without, any_touches, lowest_unwired}
-use Rattle.port_tables.specs.Listing.{member_filter, member_map, length_map, rising_filter}
+use Rattle.port_tables.specs.Listing.{member_filter, member_map, length_map, rising_filter, filter_shorter}
 use Rattle.sketches.specs.Plan.{PlanBlock, Plan, with_splits, with_wires, has_block, ports_on_side, ports_in_all, spot_named, is_there, subports_among, subports_of, set_subports, offset_read, lacks_offset, place_named, above_end, above_wired, offset_ready, subports_ready, ready}
 use Rattle.sketches.specs.PlanCalls.{most_adds, most_wires, Sketched, leaves, add_block, remove_block, recount, set_counts, with_wire, both_linked, tidied}
-use Rattle.sketches.specs.PlanWf.{PlanWf, most_subports, Elsewhere, filter_shorter, subports_wf}
+use Rattle.sketches.specs.PlanWf.{PlanWf, most_subports, Elsewhere, subports_wf}
 use Rattle.sketches.specs.declared.sketch.SketchPort.{SketchPort}
 use Rattle.sketches.specs.declared.sketch.Reason.{Reason}
 use Rattle.sketches.specs.declared.sketch.Reason.TheVariants.{TooManyPorts, UnknownBlock, NoRoom}
@@ -62,7 +63,7 @@ add_wf K i o wf = go (not (leb (i + o) node_ports)) (leb most_adds K.adds) (leb 
         }
 
 fewer_ports : (f : PlanBlock → Bool) (l : List PlanBlock) → ports_in_all (filter f l) ≤ ports_in_all l
-unfolding filter ports_in_all
+unfolding ports_in_all
 fewer_ports f [] = omega arith
 fewer_ports f (b ∷ l) = go (f b) (fewer_ports f l)
   where
@@ -71,7 +72,7 @@ fewer_ports f (b ∷ l) = go (f b) (fewer_ports f l)
     go false h = omega arith
 
 pub other_ports : (l : List PlanBlock) (n m : ℕ) (d : Direction) → (m ≡ n → ⊥) → ports_on_side (filter (λ (b : PlanBlock). not (eqb b.name n)) l) m d ≡ ports_on_side l m d
-unfolding filter ports_on_side
+unfolding ports_on_side
 other_ports [] n m d h = refl
 other_ports (b ∷ l) n m d h = go (eqb b.name n) refl (other_ports l n m d h)
   where

@@ -5,7 +5,8 @@ use Rattle.std.specs.Prelude.{Bool, not, ℕ, ◌≤◌, ◌<◌, Option, Some, 
 use Rattle.std.proofs.Math.Bool.{true, false, cond}
 use mathlib.Core.List.{List, [], ◌∷◌, map}
 use borrow.Author.Tests.{eq-eqb, ne_eqb}
-use Rattle.port_tables.specs.Lists.{filter, Member}
+use Rattle.port_tables.specs.Lists.{Member}
+use Rattle.std.specs.List.{filter}
 use Rattle.port_tables.specs.Places.{Place, Wire, touches, at_spot, at_end, without}
 use Rattle.sketches.specs.Plan.{Plan, with_wires, spot_named, is_there, subports_of, set_subports, offset_read, lacks_offset, Far, nothing, far, far_from, above_wired, end_at_place}
 use Rattle.sketches.specs.PlanCalls.{leaves, bad_offset, port_found, end_found, cut_port, subport_link, is_refused, cut_subport, tidied, tidy_port}
@@ -35,7 +36,7 @@ answers_as {A} {numbers} e = record { answered = e; numbered = ap numbers e }
 
 module _ (f : EndTest) where
   far_none : (l : List Row) → filter (hits (test.Wire f)) l ≡ [] → far_from (end_hits f) (map wire_of l) ≡ nothing
-  unfolding filter far_from
+  unfolding far_from
   far_none [] e = refl
   far_none (r ∷ l) e = go (end_hits f (wire_of r).out) refl (end_hits f (wire_of r).into) refl e (far_none l)
     where
@@ -47,7 +48,7 @@ module _ (f : EndTest) where
       go false p false q h rest = let k : filter (hits (test.Wire f)) l ≡ [] = rw (p, q) at h in rw (p, q) (rest k)
 
   far_some : (l : List Row) (x : Row) (k : List Row) → filter (hits (test.Wire f)) l ≡ x ∷ k → far_from (end_hits f) (map wire_of l) ≡ cond (end_hits f (wire_of x).out) (far (wire_of x).into) (far (wire_of x).out)
-  unfolding filter far_from
+  unfolding far_from
   far_some [] x k e = absurd (let z : ◌≡◌ {A = ℕ} 0 1 = cc in omega arith)
   far_some (r ∷ l) x k e = go (end_hits f (wire_of r).out) refl (end_hits f (wire_of r).into) refl e (far_some l x k)
     where

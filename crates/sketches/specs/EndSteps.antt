@@ -102,12 +102,6 @@ module _ (K : Plan) (x : SketchPort) (o : ℕ) (y : SketchPort) (r : ℕ) where
   pub lack_second : lacks_offset K x o ≡ false → is_there K y ≡ true → lacks_offset K y r ≡ (lacks_offset K x o || cond (is_there K y) (lacks_offset K y r) false)
   lack_second e f = rw (e, f)
 
-pub or_first : (a b : Bool) → a ≡ true → true ≡ (a || b)
-or_first a b e = rw e
-
-pub or_second : (a b : Bool) → a ≡ false → b ≡ (a || b)
-or_second a b e = rw e
-
 -- the call, as it is judged
 abbrev pub link_as : Plan → SketchPort → ℕ → SketchPort → ℕ → Result (Unit {0}) Reason → Sketched (Result (SketchEnd × SketchEnd) Reason)
 link_as K x o y r (Err q) = leaves K (Err q)

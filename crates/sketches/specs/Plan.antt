@@ -1,7 +1,7 @@
 -- What a sketch holds: the release that it is made for, how many adds were accepted, the blocks, for each split port how many subports it has, and
 -- the wires between places. The newest stands first in each list. Places and wires are the book's, with the name of a block for its node.
 use Rattle.std.specs.Prelude.{Bool, true, false, cond, not, List, [], ◌∷◌, ℕ, suc, ◌+◌, max, eqb, leb, ltb}
-use Rattle.port_tables.specs.Lists.{filter}
+use Rattle.std.specs.List.{filter}
 use Rattle.port_tables.specs.Entries.{new_count}
 use Rattle.port_tables.specs.declared.direction.Direction.{Direction}
 use Rattle.port_tables.specs.declared.direction.Direction.TheVariants.{Incoming, Outgoing}

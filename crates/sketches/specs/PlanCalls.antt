@@ -1,7 +1,7 @@
 -- Each call: its refusals in their order, else what is done. 10 is tested last, so that it is given only where the call would otherwise be
 -- accepted. A link of ports that is refused with 11 or 12 keeps what was made ready, as the kit does.
 use Rattle.std.specs.Prelude.{Bool, true, false, cond, not, ◌||◌, List, [], ◌∷◌, map, ℕ, suc, ◌+◌, eqb, leb, ltb, length, Option, Some, None, Result, Ok, Err}
-use Rattle.port_tables.specs.Lists.{filter}
+use Rattle.std.specs.List.{filter}
 use Rattle.port_tables.specs.Limits.{node_slots, port_slots, node_ports}
 use Rattle.port_tables.specs.Entries.{same_side}
 use Rattle.port_tables.specs.Places.{Place, at_spot, at_end, of_node, of_dropped, wire_of_sides, without, any_touches}

@@ -1,7 +1,8 @@
 -- What each walk lists, the counts and the fan-outs. Wires are listed as wires; a program prints the end that a walk is about first.
 use Rattle.std.specs.Prelude.{Bool, false, cond, not, ℕ, zero, suc, eqb, length, Result, Ok, Err}
 use mathlib.Core.List.{List, [], ◌∷◌, map, flat_map}
-use Rattle.port_tables.specs.Lists.{filter, range}
+use Rattle.port_tables.specs.Lists.{range}
+use Rattle.std.specs.List.{filter}
 use Rattle.port_tables.specs.Entries.{same_side}
 use Rattle.port_tables.specs.declared.direction.Direction.{Direction}
 use Rattle.port_tables.specs.declared.direction.Direction.TheVariants.{Outgoing}

@@ -2,8 +2,9 @@
 -- never more split ports than ports, and that an offset fits 16 bits.
 use Rattle.std.specs.Prelude.{◌≡◌, refl, Bool, true, false, cond, not, List, [], ◌∷◌, ◌++◌, map, ℕ, suc, ◌≤◌, ◌<◌, eqb, length}
 use Rattle.std.proofs.Common.{sym, ◌∙◌, subst, ⊎_elim, arith, length-append, eqb-true, eq-eqb, ltb-true}
-use Rattle.std.proofs.lemmas.Bool.{not-true}
-use Rattle.port_tables.specs.Lists.{filter, range, Member, Rising}
+use Rattle.std.proofs.lemmas.Bool.{not-true, true≢false}
+use Rattle.port_tables.specs.Lists.{range, Member, Rising}
+use Rattle.std.specs.List.{filter}
 use Rattle.port_tables.specs.Limits.{node_slots, port_slots}
 use Rattle.port_tables.specs.Entries.{same_side, new_count}
 use Rattle.port_tables.specs.declared.direction.Direction.{Direction}
@@ -98,20 +99,6 @@ splits_fit K wf =
     (λ x i. let g = member_map spot_at x K.splits i in (x, subst (λ y. Member y (spots_of K.blocks)) (sym g.2) (spot_listed K.blocks g.0.node g.0.side g.0.pos (wf.there g.0 g.1)), refl)) in
     omega arith
 
--- Making a list shorter keeps what is above.
-
-pub filter_shorter : {A : Type 0} (f : A → Bool) (l : List A) → length (filter f l) ≤ length l
-unfolding filter
-filter_shorter f [] = omega arith
-filter_shorter {A} f (x ∷ l) = go (f x) (filter_shorter f l)
-  where
-    go : (b : Bool) → length (filter f l) ≤ length l → length (cond b (x ∷ filter f l) (filter f l)) ≤ suc (length l)
-    go true h = omega arith
-    go false h = omega arith
-
-true_is_not_false : true ≡ false → ⊥
-true_is_not_false e = let z : ◌≡◌ {A = ℕ} 0 1 = cc in omega arith
-
 -- Another number of subports.
 
 pub at_own_spot : (x : Place) (p : SketchPort) → spot_at x ≡ spot_named p → at_spot (spot_named p) x ≡ true
@@ -152,7 +139,7 @@ with_splits_wf K p c wf h k false =
           (λ e. subst (λ (y : Place). y.pos < ports_on_side K.blocks y.node y.side) (sym e) (ltb-true p.position (ports_on_side K.blocks p.block p.side) h))
           (λ j. wf.there x (member_filter (λ s. not (at_spot (spot_named p) s)) x K.splits j).0) i;
       apart = (
-        (λ x i e. true_is_not_false (sym (at_own_spot x p (sym e)) ∙ not-true (at_spot (spot_named p) x) (member_filter (λ s. not (at_spot (spot_named p) s)) x K.splits i).1)),
+        (λ x i e. true≢false (sym (at_own_spot x p (sym e)) ∙ not-true (at_spot (spot_named p) x) (member_filter (λ s. not (at_spot (spot_named p) s)) x K.splits i).1)),
         rising_filter Elsewhere (λ s. not (at_spot (spot_named p) s)) K.splits wf.apart,
       );
       subports = λ x i. ⊎_elim (λ e. subst (λ (y : Place). y.offset ≤ most_subports) (sym e) k) (λ j. wf.subports x (member_filter (λ s. not (at_spot (spot_named p) s)) x K.splits j).0) i;

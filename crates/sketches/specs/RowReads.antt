@@ -1,8 +1,8 @@
 -- What is found among the rows of a table is what the definitions read off the lists.
 use Rattle.std.specs.Prelude.{◌≡◌, refl, Bool, true, false, cond, not, List, [], ◌∷◌, map, ℕ, eqb}
-use Rattle.std.proofs.Common.{sym, ap}
+use Rattle.std.proofs.Common.{sym}
 use Rattle.std.specs.Option.{option_map_or}
-use Rattle.port_tables.specs.Lists.{filter}
+use Rattle.std.specs.List.{filter}
 use denote.Enum.Bare.{sameb}
 use mathlib.Core.Bool.{◌&&◌}
 use Rattle.port_tables.specs.Entries.{same_side, new_count}
@@ -12,6 +12,7 @@ use Rattle.port_tables.specs.declared.direction.Direction.{Direction}
 use Rattle.port_tables.specs.declared.direction.Direction.TheVariants.{Incoming, Outgoing}
 use Rattle.port_tables.specs.Places.{at_spot, at_end, touches, any_touches, without}
 use Rattle.sketches.specs.Plan.{PlanBlock, has_block, ports_on_side, spot_named, subports_among}
+use Rattle.port_tables.specs.Listing.{filter_map}
 use Rattle.sketches.specs.Rows.{block_of, split_of, wire_of, place_in, end_hits, hits, missed, no_row, first, newest_of, is_there_any}
 use Rattle.sketches.specs.declared.rows.Row.{Row}
 use Rattle.sketches.specs.declared.sketch.SketchPort.{SketchPort}
@@ -41,7 +42,7 @@ module _ (p : SketchPort) (x : RowEnd) where
       go false = refl
 
 pub block_found_lem : (n : ℕ) (l : List Row) → is_there_any (filter (hits (test.Block n)) l) ≡ has_block (map block_of l) n
-unfolding filter has_block
+unfolding has_block
 block_found_lem n [] = refl
 block_found_lem n (r ∷ l) = go (eqb r.0 n) (block_found_lem n l)
   where
@@ -61,7 +62,7 @@ abbrev pub count_on : Direction → Row → ℕ
 count_on d r = new_count r.1 r.2 d
 
 pub ports_found : (n : ℕ) (d : Direction) (l : List Row) → count_on d (newest_of (filter (hits (test.Block n)) l)) ≡ ports_on_side (map block_of l) n d
-unfolding filter ports_on_side newest_of
+unfolding ports_on_side newest_of
 ports_found n Incoming [] = refl
 ports_found n Outgoing [] = refl
 ports_found n d (r ∷ l) = go (eqb r.0 n) (ports_found n d l)
@@ -76,7 +77,7 @@ no_ports Incoming = refl
 no_ports Outgoing = refl
 
 pub subports_found : (p : SketchPort) (l : List Row) → (newest_of (filter (hits (test.Split (ask.AtPort p))) l)).3 ≡ subports_among (map split_of l) (spot_named p)
-unfolding filter subports_among newest_of
+unfolding subports_among newest_of
 subports_found p [] = refl
 subports_found p (r ∷ l) = go (at_spot (spot_named p) (split_of r)) (subports_found p l)
   where
@@ -86,7 +87,7 @@ subports_found p (r ∷ l) = go (at_spot (spot_named p) (split_of r)) (subports_
     go false e = e
 
 pub wire_found : (f : EndTest) (l : List Row) → is_there_any (filter (hits (test.Wire f)) l) ≡ any_touches (end_hits f) (map wire_of l)
-unfolding filter any_touches
+unfolding any_touches
 wire_found f [] = refl
 wire_found f (r ∷ l) = go (touches (end_hits f) (wire_of r)) refl (wire_found f l)
   where
@@ -96,21 +97,11 @@ wire_found f (r ∷ l) = go (touches (end_hits f) (wire_of r)) refl (wire_found 
     go false p e = rw p e
 
 -- rows that are kept or dropped by a test of what they stand for
-pub filter_map : {A B : Type 0} (g : A → B) (f : B → Bool) (l : List A) → map g (filter (λ a. f (g a)) l) ≡ filter f (map g l)
-unfolding filter
-filter_map g f [] = refl
-filter_map {A} {B} g f (a ∷ l) = go (f (g a)) (filter_map g f l)
-  where
-    go : (b : Bool) → map g (filter (λ a. f (g a)) l) ≡ filter f (map g l) →
-        map g (cond b (a ∷ filter (λ a. f (g a)) l) (filter (λ a. f (g a)) l)) ≡ cond b (g a ∷ filter f (map g l)) (filter f (map g l))
-    go true e = ap (λ (x : List B). g a ∷ x) e
-    go false e = e
-
 pub wires_left : (f : EndTest) (l : List Row) → map wire_of (filter (missed (test.Wire f)) l) ≡ without (end_hits f) (map wire_of l)
-wires_left f l = filter_map wire_of (λ w. not (touches (end_hits f) w)) l
+wires_left f l = sym (filter_map wire_of (λ w. not (touches (end_hits f) w)) l)
 
 pub splits_left : (f : EndTest) (l : List Row) → map split_of (filter (missed (test.Split f)) l) ≡ filter (λ s. not (end_hits f s)) (map split_of l)
-splits_left f l = filter_map split_of (λ s. not (end_hits f s)) l
+splits_left f l = sym (filter_map split_of (λ s. not (end_hits f s)) l)
 
 pub blocks_left_lem : (n : ℕ) (l : List Row) → map block_of (filter (missed (test.Block n)) l) ≡ filter (λ (b : PlanBlock). not (eqb b.name n)) (map block_of l)
-blocks_left_lem n l = filter_map block_of (λ (b : PlanBlock). not (eqb b.name n)) l
+blocks_left_lem n l = sym (filter_map block_of (λ (b : PlanBlock). not (eqb b.name n)) l)

@@ -13,7 +13,7 @@ use native.Mathlib.Omega.{arith}
 use Rattle.std.proofs.Math.ListN.{length}
 use borrow.Author.Tests.{le-leb, leb-true, eqb-true, eqb-false}
 use Rattle.std.proofs.Math.Dec.{eqb, leb}
-use Rattle.port_tables.specs.Lists.{filter}
+use Rattle.std.specs.List.{filter}
 use Rattle.sketches.specs.Searches.{Searched, SearchedBack}
 use Rattle.sketches.specs.Plan.{PlanBlock, ports_in_all}
 use Rattle.sketches.specs.Rows.{row_at, put_row, rows_in, Table, newest_hit, oldest_hit, block_of, past, first, is_there_any, no_row}
@@ -79,11 +79,11 @@ ports_taken k seen a b t (suc n) h =
 
 module _ (f : Row → Bool) (t : List Row) where
   pub none_more_hit : (i : ℕ) → f (row_at t i) ≡ false → filter f (rows_in t (i + 1)) ≡ filter f (rows_in t i)
-  unfolding rows_in filter
+  unfolding rows_in
   none_more_hit i e = rw (add-one i, e)
 
   pub one_more_kept : (i : ℕ) → f (row_at t i) ≡ true → filter f (rows_in t (i + 1)) ≡ row_at t i ∷ filter f (rows_in t i)
-  unfolding rows_in filter
+  unfolding rows_in
   one_more_kept i e = rw (add-one i, e)
 
 -- the same rows as the front of a list
@@ -91,7 +91,7 @@ pub row_taken : (t : List Row) (n i : ℕ) → i < n → get_or (take n t) i no_
 row_taken t n i h = get_or-take n t i no_row h
 
 pub count_taken : (f : Row → Bool) (t : List Row) (n : ℕ) → n ≤ length t → count_by f (take n t) ≡ length (filter f (rows_in t n))
-unfolding rows_in filter
+unfolding rows_in
 count_taken f t zero h = refl
 count_taken f t (suc n) h = go (f (row_at t n)) refl (count_taken f t n (omega arith))
   where
@@ -130,7 +130,7 @@ pub record Closing (f : Row → Bool) (t₀ : List Row) (count : ℕ) (t : List 
 
 module _ (f : Row → Bool) (t₀ : List Row) (count : ℕ) where
   pub closing_begins : Table t₀ → Closing f t₀ count t₀ 0 0
-  unfolding rows_in filter
+  unfolding rows_in
   closing_begins h = record { within = omega arith; fewer = omega arith; table = h; rest = λ j l. refl; rows = refl }
 
   pub closing_row : (t : List Row) (kept i : ℕ) → Closing f t₀ count t kept i → row_at t i ≡ row_at t₀ i
@@ -204,7 +204,7 @@ module _ (g : PlanBlock → PlanBlock) (t₀ : List Row) (count : ℕ) where
 -- The newest row that is hit is the first of those that are.
 
 pub newest_none : (f : Row → Bool) (t : List Row) (n : ℕ) → newest_hit f t 0 n ≡ 0 → filter f (rows_in t n) ≡ []
-unfolding newest_hit rows_in filter
+unfolding newest_hit rows_in
 newest_none f t zero e = refl
 newest_none f t (suc n) e = go (f (row_at t n)) refl (rw (le-leb 0 n (omega arith)) at e) (newest_none f t n)
   where
@@ -214,7 +214,7 @@ newest_none f t (suc n) e = go (f (row_at t n)) refl (rw (le-leb 0 n (omega arit
     go false p q rest = let s : newest_hit f t 0 n ≡ 0 = rw p at q in rw p (rest s)
 
 pub newest_some : (f : Row → Bool) (t : List Row) (n k : ℕ) → newest_hit f t 0 n ≡ suc k → (filter f (rows_in t n) ≡ row_at t k ∷ filter f (rows_in t k)) × (k < n)
-unfolding newest_hit rows_in filter
+unfolding newest_hit rows_in
 newest_some f t zero k e = absurd (omega arith)
 newest_some f t (suc n) k e = go (f (row_at t n)) refl (rw (le-leb 0 n (omega arith)) at e) (newest_some f t n k)
   where

@@ -2,7 +2,7 @@
 use Rattle.std.specs.Prelude.{◌≡◌, refl, Bool, true, false, cond, not, List, ◌∷◌, map, ℕ, ◌≤◌, ◌<◌, eqb, length}
 use Rattle.std.proofs.Common.{sym, ap, ◌∙◌, arith, eq-eqb, ne_eqb}
 use Rattle.std.proofs.Math.Path.{subst}
-use Rattle.port_tables.specs.Lists.{filter}
+use Rattle.std.specs.List.{filter}
 use Rattle.port_tables.specs.Entries.{side_number}
 use Rattle.port_tables.specs.declared.direction.Direction.{Direction}
 use Rattle.port_tables.specs.declared.direction.Direction.TheVariants.{Incoming, Outgoing}

@@ -16,6 +16,7 @@ use Rattle.sketches.specs.SketchWalks.{offset_count, next_subport}
 use Rattle.sketches.specs.declared.walks.SubportWalk.{SubportWalk}
 use Rattle.sketches.specs.declared.sketch.SketchPort.{SketchPort}
 use Rattle.sketches.specs.declared.sketch.SketchEnd.{SketchEnd}
+use Rattle.port_tables.specs.Listing.{range_none}
 
 -- the ends of a port, from an offset on
 abbrev ends_from : Plan → SketchPort → ℕ → List SketchEnd
@@ -51,10 +52,6 @@ range_first : (i n : ℕ) → 0 < n → range i n ≡ i ∷ range (suc i) (n - 1
 unfolding range
 range_first i zero h = absurd (omega arith)
 range_first i (suc n) h = let e : suc n - 1 ≡ n = omega arith in rw e
-
-range_none : (i n : ℕ) → n ≡ 0 → range i n ≡ []
-unfolding range
-range_none i n e = rw e
 
 ends_first : (K : Plan) (x : SketchPort) (o : ℕ) → o < offset_count (subports_of K x) → ends_from K x o ≡ end# x o ∷ ends_from K x (suc o)
 ends_first K x o h =

@@ -11,14 +11,13 @@ use Prim.Native.Nat.{ℕ, zero, suc, ◌+◌, ◌-◌, ◌≤◌, ◌<◌, min}
 use native.Mathlib.Omega.{arith}
 use Rattle.std.proofs.Math.Dec.{leb}
 use borrow.Author.Tests.{eqb-true, eqb-false, le-leb, lt-leb, leb-true, leb-false}
-use Rattle.port_tables.specs.Lists.{filter}
+use Rattle.std.specs.List.{filter}
 use Rattle.port_tables.specs.declared.direction.Direction.{Direction}
 use Rattle.port_tables.specs.Places.{Wire, touches, at_spot, end_on, far_from}
-use Rattle.port_tables.specs.Listing.{filter_append, filter_same, filter_all}
+use Rattle.port_tables.specs.Listing.{filter_same, filter_map, filter_all}
 use Rattle.sketches.specs.Plan.{PlanBlock, spot_named}
 use Rattle.sketches.specs.PlanLists.{links_of_port, links_of_side, is_own_output, neighbours_of_side, connections, block_names}
 use Rattle.sketches.specs.Rows.{row_at, rows_in, block_of, wire_of, hits, newest_hit, oldest_hit}
-use Rattle.sketches.specs.RowReads.{filter_map}
 use Rattle.sketches.specs.SketchTables.{Totals, plan_in}
 use Rattle.sketches.specs.SketchWalks.{whole_walk, wire_held, wire_below, wire_above, block_below, next_wire, previous_wire, next_block}
 use Rattle.sketches.specs.declared.rows.Row.{Row}
@@ -29,6 +28,7 @@ use Rattle.sketches.specs.declared.tests.Walk.{Walk}
 use Rattle.sketches.specs.declared.walks.SketchWire.{SketchWire}
 use Rattle.sketches.specs.declared.sketch.SketchPort.{SketchPort}
 use Rattle.sketches.specs.WalkSteps.{newest_high}
+use Rattle.std.proofs.lemmas.List.Elements.{filter-append}
 
 -- the rows from low up to high, newest first
 unfoldable pub rows_between : List Row → ℕ → ℕ → List Row
@@ -52,7 +52,7 @@ whole_left t n x = let e : min n n ≡ n = omega arith in ap (filter (hits x)) (
 
 module _ (f : Row → Bool) (t : List Row) (low : ℕ) where
   newest_first_none : (n : ℕ) → newest_hit f t low n ≡ 0 → filter f (rows_between t low n) ≡ []
-  unfolding newest_hit rows_between filter
+  unfolding newest_hit rows_between
   newest_first_none zero e = refl
   newest_first_none (suc n) e = go (leb low n) (f (row_at t n)) refl e (newest_first_none n)
     where
@@ -63,7 +63,7 @@ module _ (f : Row → Bool) (t : List Row) (low : ℕ) where
       go false b p q rest = refl
 
   newest_first : (n k : ℕ) → newest_hit f t low n ≡ suc k → filter f (rows_between t low n) ≡ row_at t k ∷ filter f (rows_between t low k)
-  unfolding newest_hit rows_between filter
+  unfolding newest_hit rows_between
   newest_first zero k e = absurd (omega arith)
   newest_first (suc n) k e = go (leb low n) (f (row_at t n)) refl e (newest_first n k)
     where
@@ -97,11 +97,10 @@ oldest_last t low (suc n) h = go (eqb low n) refl (oldest_last t low n)
 
 module _ (f : Row → Bool) (t : List Row) (high : ℕ) where
   one_back : (low : ℕ) → low < high → (b : Bool) → f (row_at t low) ≡ b → filter f (rows_between t low high) ≡ filter f (rows_between t (suc low) high) ++ cond b (row_at t low ∷ []) []
-  unfolding filter
-  one_back low h b e = ap (filter f) (oldest_last t low high h) ∙ filter_append f (rows_between t (suc low) high) (row_at t low ∷ []) ∙ ap (λ (l : List Row). filter f (rows_between t (suc low) high) ++ l) (rw e)
+  one_back low h b e = ap (filter f) (oldest_last t low high h) ∙ filter-append f (rows_between t (suc low) high) (row_at t low ∷ []) ∙ ap (λ (l : List Row). filter f (rows_between t (suc low) high) ++ l) (rw e)
 
   oldest_last_none : (low n : ℕ) → high ≡ low + n → oldest_hit f t low n ≡ 0 → filter f (rows_between t low high) ≡ []
-  unfolding oldest_hit filter
+  unfolding oldest_hit
   oldest_last_none low zero h e = ap (filter f) (none_between t low high (omega arith))
   oldest_last_none low (suc n) h e = go (f (row_at t low)) refl e (oldest_last_none (suc low) n (omega arith))
     where
@@ -110,7 +109,7 @@ module _ (f : Row → Bool) (t : List Row) (high : ℕ) where
       go false p q rest = one_back low (omega arith) false p ∙ append-nil (filter f (rows_between t (suc low) high)) ∙ rest q
 
   oldest_last_some : (low n k : ℕ) → high ≡ low + n → oldest_hit f t low n ≡ suc k → filter f (rows_between t low high) ≡ filter f (rows_between t (suc k) high) ++ (row_at t k ∷ [])
-  unfolding oldest_hit filter
+  unfolding oldest_hit
   oldest_last_some low zero k h e = absurd (omega arith)
   oldest_last_some low (suc n) k h e = go (f (row_at t low)) refl e (oldest_last_some (suc low) n k (omega arith))
     where
@@ -178,7 +177,7 @@ module _ (t : List Row) (n : ℕ) (w : Walk) where
           absurd (none_there (hits w.test) t w.low (min w.high n - w.low) k z p)
 
   pub previous_ends_empty : previous_wire t n w ≡ None → wires_left t n w ≡ []
-  unfolding previous_wire filter
+  unfolding previous_wire
   previous_ends_empty e = go (oldest_hit (hits w.test) t w.low (min w.high n - w.low)) refl e (leb w.low (min w.high n)) refl
     where
       go : (k : ℕ) → oldest_hit (hits w.test) t w.low (min w.high n - w.low) ≡ k → wire_above t w k ≡ None → (b : Bool) → leb w.low (min w.high n) ≡ b → wires_left t n w ≡ []
@@ -193,7 +192,6 @@ module _ (t : List Row) (n : ℕ) (w : Walk) where
 -- The lists of a plan are those of the walks.
 
 filter_twice : {A : Type 0} (f g : A → Bool) (l : List A) → filter g (filter f l) ≡ filter (λ a. cond (f a) (g a) false) l
-unfolding filter
 filter_twice f g [] = refl
 filter_twice {A} f g (x ∷ l) = go (f x) (g x) refl (filter_twice f g l)
   where
@@ -208,7 +206,7 @@ module _ (b s w : List Row) (h : Totals) where
   listed g x e =
       ap (map (λ r. wire_held (wire_of r))) (whole_left w h.wires x ∙ filter_same (hits x) (λ r. g (wire_of r)) (rows_in w h.wires) (λ r i. e r))
       ∙ sym (map-map wire_held wire_of (filter (λ r. g (wire_of r)) (rows_in w h.wires)))
-      ∙ ap (map wire_held) (filter_map wire_of g (rows_in w h.wires))
+      ∙ ap (map wire_held) (sym (filter_map wire_of g (rows_in w h.wires)))
 
   pub walk_of_port : (x : SketchPort) → wires_left w h.wires (whole_walk h.wires (test.Wire (ask.AtPort x))) ≡ map wire_held (links_of_port (plan_in b s w h) x)
   walk_of_port x = listed (touches (at_spot (spot_named x))) (test.Wire (ask.AtPort x)) (λ r. refl)

@@ -1,6 +1,6 @@
 // A table: rows, of which the first are in use, and how many those are. A new row stands behind the others.
 ghost use Rattle.std.specs.Prelude.{◌≡◌, ◌∷◌, map, ◌+◌, ◌-◌, ◌≤◌, ◌<◌, min, length};
-ghost use Rattle.port_tables.specs.Lists.{filter};
+ghost use Rattle.std.specs.List.{filter};
 ghost use Rattle.sketches.specs.Plan.{ports_in_all};
 ghost use Rattle.sketches.specs.PlanCalls.{recount};
 ghost use Rattle.sketches.specs.Rows.{row_slots, Table, past, newest_hit, oldest_hit, hits, missed, first, is_there_any, block_of};

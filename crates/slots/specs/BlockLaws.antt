@@ -1,6 +1,6 @@
 -- The blocks read off the tables are those of the model that the tables stand for; so every slot of the used length lies in one of them,
 -- and the listing has them end to end.
-use Rattle.std.specs.Prelude.{◌≡◌, Bool, cond, ltb, length, get_or, replicate, Option, Some, None}
+use Rattle.std.specs.Prelude.{◌≡◌, Bool, cond, ltb, length, replicate, Option, Some, None}
 use Rattle.std.proofs.Math.Path.{refl, ap}
 use Rattle.std.proofs.Common.{sym, ◌∙◌, subst, inl, inr, arith}
 use Rattle.std.proofs.Math.Bool.{true, false}
@@ -16,8 +16,8 @@ use Rattle.port_tables.specs.Lists.{Member, Once, Rising, range}
 use Rattle.port_tables.specs.Tables.{at, put, head_at, Within}
 use Rattle.portgraph.specs.Lookups.{meta_at}
 use Rattle.portgraph.specs.Model.{Model, live, Who, held, idle, unused, Good, Holds, Chain}
-use Rattle.portgraph.specs.GoodSlots.{same_held, held_not_idle, free_block_of_one}
-use Rattle.portgraph.specs.TableLaws.{length_put, at_put_same, at_put_other, at_inside, at_outside}
+use Rattle.portgraph.specs.GoodSlots.{same_held, held_not_idle, free_block_of_one, node_below}
+use Rattle.portgraph.specs.TableLaws.{length_put, at_put_same, at_put_other}
 use Rattle.portgraph.specs.PlaceLaws.{meta_of_node, node_of_meta}
 use Rattle.port_tables.specs.declared.node_entry.NodeMeta.{NodeMeta}
 use Rattle.portgraph.specs.declared.portgraph.PortGraph.{PortGraph}
@@ -25,6 +25,7 @@ use Rattle.port_tables.specs.Listing.{Apart, apart_below, member_left, member_ri
 use Rattle.slots.specs.Blocks.{Holder, by_node, free, SlotBlock, slot_block, node_holds, held_blocks, chained, free_of, listed_free, free_blocks, blocks_of, holder_number, size_of, holder_of_block, laid, sizes_laid, holders_laid, slot_list}
 use Rattle.slots.specs.SlotClaims.{InBlock, SlotsAccounted, SlotsListed}
 use Rattle.slots.specs.TileLaws.{walk_tiles, walk_gives, tiles_rise, tiles_add}
+use Rattle.port_tables.specs.TableSteps.{at_inside, at_outside}
 
 -- Lists without repeats.
 
@@ -158,8 +159,7 @@ module _ {g : PortGraph} {M : Model} (good : Good M) (holds : Holds g M) where
   pub blocks_lent : (f k : ℕ) (h : Holder) → Has M f k h → Member (slot_block f k h) (blocks_of g)
   unfolding held_blocks free_blocks
   blocks_lent f k (by_node n) b =
-      let u = good.node_used n b.0 b.1 in
-      let l = good.nodes_fit in
+      let u = node_below good n b.0 b.1 in
       let x = b.2 in
       let y = b.3 in
       let z = b.4 in
@@ -278,8 +278,8 @@ module _ {g : PortGraph} {M : Model} (good : Good M) (holds : Holds g M) where
       go true q =
           laid_keeps size_of (blocks_of g) (replicate port_slots 0) g.port_len 0 (length-replicate {A = ℕ} port_slots 0) (ltb-true g.port_len port_slots q)
           (λ c i e. let w = block_within c i in let p = block_some c i in absurd (omega arith))
-          (at_inside (replicate port_slots 0) g.port_len (ltb-true g.port_len port_slots q) ∙ get_or-replicate port_slots g.port_len 0 0 (ltb-true g.port_len port_slots q))
-      go false q = at_outside (laid size_of (blocks_of g) (replicate port_slots 0)) g.port_len (ltb-false g.port_len port_slots q)
+          (sym (at_inside (replicate port_slots 0) g.port_len (ltb-true g.port_len port_slots q)) ∙ get_or-replicate port_slots g.port_len 0 0 (ltb-true g.port_len port_slots q))
+      go false q = sym (at_outside (laid size_of (blocks_of g) (replicate port_slots 0)) g.port_len (ltb-false g.port_len port_slots q))
 
   pub slots_listed : SlotsListed g
   unfolding slot_list sizes_laid holders_laid

@@ -1,14 +1,14 @@
 -- No block is ever split or joined: a block of a graph is a block afterwards, whoever has it. First what each change of the single-link
 -- graph does to the blocks of its model; then every call of it; then every call of the multiport graph, which is made of these.
-use Rattle.std.specs.Prelude.{◌≡◌, refl, Bool, true, false, cond, List, [], ◌∷◌, ◌⊎◌, ℕ, ◌+◌, ◌*◌, ◌≤◌, ◌<◌, eqb, leb, ltb, Option, Some, None, Result, Ok, Err}
-use Rattle.std.proofs.Common.{sym, ◌∙◌, ap, subst, inl, inr, ⊎_elim, arith, eqb-true, ne_eqb, leb-true, ltb-true}
+use Rattle.std.specs.Prelude.{◌≡◌, refl, Bool, true, false, cond, List, [], ◌∷◌, ◌⊎◌, ℕ, ◌+◌, ◌*◌, ◌≤◌, ◌<◌, eqb, leb, Option, Some, None, Result, Ok, Err}
+use Rattle.std.proofs.Common.{sym, ◌∙◌, ap, subst, inl, inr, ⊎_elim, arith, eqb-true, ne_eqb, leb-true}
 use Rattle.std.proofs.lemmas.Bool.{eqb-false}
 use Rattle.port_tables.specs.Limits.{node_slots, port_slots, node_ports}
 use Rattle.port_tables.specs.Lists.{Member}
 use Rattle.portgraph.specs.Model.{Model, Slots, gone, live, Good, Holds, Wf}
 use Rattle.portgraph.specs.Meaning.{upd, first_or, rest, growth, next_slot, next_block, give_block, add_model, remove_model, link_model, unlink_model, resize_model, move_model}
 use Rattle.port_tables.specs.Entries.{meta_of}
-use Rattle.portgraph.specs.GoodSlots.{zero_is_not_one, gone_not_live, upd_elim, upd_same, upd_other, give_elim}
+use Rattle.portgraph.specs.GoodSlots.{gone_not_live, upd_elim, upd_same, upd_other, give_elim}
 use Rattle.portgraph.specs.GoodLaws.{next_slot_gone, good_add, good_remove, good_resize, good_move}
 use Rattle.portgraph.specs.Calls.{add_node, remove_node, link_ports, unlink_port}
 use Rattle.portgraph.specs.Resize.{set_num_ports, set_by, refuse}
@@ -64,6 +64,19 @@ next_is M size z = rw (ne_eqb size 0 (omega arith))
 other_holds : (M N : Model) (n : ℕ) (v : Slots) → N.node ≡ upd M.node n v → (i f k : ℕ) → (i ≡ n → ⊥) → Has M f k (by_node i) → Has N f k (by_node i)
 other_holds M N n v e i f k apart b = (b.0, ap (λ (node : ℕ → Slots). node i) e ∙ (upd_other M.node n v i apart ∙ b.1), b.2, b.3, b.4)
 
+-- where the block of a node is given back, it is free
+freed_is : (M : Model) (n : ℕ) (m : NodeMeta) → M.node n ≡ live m → (i f k : ℕ) → i ≡ n → Has M f k (by_node i) → (blocks : ℕ → List ℕ) → Member f (give_block blocks m.first_port.0 m.capacity k)
+freed_is M n m here i f k e b blocks =
+    let p = b.1 in
+    let q : M.node i ≡ live m = ap M.node e ∙ here in
+    let same : m ≡ b.0 = cc in
+    let x : m.first_port.0 ≡ f = ap (λ (c : NodeMeta). c.first_port.0) same ∙ b.2 in
+    let y : m.capacity ≡ k = ap (λ (c : NodeMeta). c.capacity) same ∙ b.3 in
+    let z = b.4 in
+    subst (λ (j : ℕ). Member j (give_block blocks m.first_port.0 m.capacity k)) x
+    (subst (λ (j : ℕ). Member m.first_port.0 (give_block blocks m.first_port.0 m.capacity j)) y
+    (given_is blocks m.first_port.0 m.capacity (omega arith)))
+
 keeps_add : {M : Model} → Good M → (i o : ℕ) → Keeps M (add_model M i o)
 keeps_add {M} good i o f k (by_node n) b =
     (by_node n, other_holds M (add_model M i o) (next_slot M) _ refl n f k (λ e. gone_not_live (ap M.node e ∙ next_slot_gone good) b.1) b)
@@ -83,18 +96,7 @@ keeps_remove {M} good n m here f k (by_node i) b = go (eqb i n) refl
   where
     go : (t : Bool) → eqb i n ≡ t → (h : Holder) × Has (remove_model M n m) f k h
     go false e = (by_node i, other_holds M (remove_model M n m) n gone refl i f k (eqb-false i n e) b)
-    go true e =
-        let p = b.1 in
-        let q : M.node i ≡ live m = ap M.node (eqb-true i n e) ∙ here in
-        let same : m ≡ b.0 = cc in
-        let x : m.first_port.0 ≡ f = ap (λ (c : NodeMeta). c.first_port.0) same ∙ b.2 in
-        let y : m.capacity ≡ k = ap (λ (c : NodeMeta). c.capacity) same ∙ b.3 in
-        let z = b.4 in (
-          free,
-          subst (λ (j : ℕ). Member j (give_block M.free_blocks m.first_port.0 m.capacity k)) x
-              (subst (λ (j : ℕ). Member m.first_port.0 (give_block M.free_blocks m.first_port.0 m.capacity j)) y
-              (given_is M.free_blocks m.first_port.0 m.capacity (omega arith))),
-        )
+    go true e = (free, freed_is M n m here i f k (eqb-true i n e) b M.free_blocks)
 
 abbrev recount : NodeMeta → ℕ → ℕ → NodeMeta
 recount m incoming outgoing = meta_of m.first_port.0 incoming outgoing m.capacity
@@ -134,18 +136,7 @@ keeps_move {M} good n m here incoming outgoing size some f k (by_node i) b = go 
   where
     go : (t : Bool) → eqb i n ≡ t → (h : Holder) × Has (move_model M n m incoming outgoing size) f k h
     go false e = (by_node i, other_holds M (move_model M n m incoming outgoing size) n _ refl i f k (eqb-false i n e) b)
-    go true e =
-        let p = b.1 in
-        let q : M.node i ≡ live m = ap M.node (eqb-true i n e) ∙ here in
-        let same : m ≡ b.0 = cc in
-        let x : m.first_port.0 ≡ f = ap (λ (c : NodeMeta). c.first_port.0) same ∙ b.2 in
-        let y : m.capacity ≡ k = ap (λ (c : NodeMeta). c.capacity) same ∙ b.3 in
-        let z = b.4 in (
-          free,
-          subst (λ (j : ℕ). Member j (give_block (taken_from M.free_blocks size) m.first_port.0 m.capacity k)) x
-              (subst (λ (j : ℕ). Member m.first_port.0 (give_block (taken_from M.free_blocks size) m.first_port.0 m.capacity j)) y
-              (given_is (taken_from M.free_blocks size) m.first_port.0 m.capacity (omega arith))),
-        )
+    go true e = (free, freed_is M n m here i f k (eqb-true i n e) b (taken_from M.free_blocks size))
 
 -- Calls of the single-link graph.
 

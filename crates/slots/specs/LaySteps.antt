@@ -10,18 +10,16 @@ use Rattle.port_tables.specs.Limits.{node_slots, port_slots, free_lists}
 use Rattle.port_tables.specs.Lists.{range}
 use Rattle.port_tables.specs.Tables.{at, put, head_at}
 use Rattle.portgraph.specs.GoodSlots.{zero_is_not_one}
-use Rattle.portgraph.specs.TableLaws.{at_outside}
 use Rattle.port_tables.specs.NodeTable.{meta_in}
 use Rattle.portgraph.specs.declared.portgraph.PortGraph.{PortGraph}
 use Rattle.port_tables.specs.declared.node_entry.NodeSlot.{NodeSlot}
-use Rattle.portgraph.specs.declared.tables.Counts.{Counts}
 use Rattle.port_tables.specs.declared.node_entry.NodeMeta.{NodeMeta}
-use Rattle.multiportgraph.specs.WellFormed.{MultiWf}
-use Rattle.multiportgraph.specs.declared.multiportgraph.MultiPortGraph.{MultiPortGraph}
 use Rattle.slots.specs.Blocks.{Holder, by_node, free, SlotBlock, slot_block, node_holds, held_blocks, chained, free_of, free_blocks, holder_number, holder_of, size_of, holder_of_block, laid, sizes_laid, holders_laid, walk_blocks, slot_list, block_numbers, node_of, told, block_told, slots_told, told_numbers, node_number}
 use Rattle.port_tables.specs.declared.index.NodeIndex.{NodeIndex}
 use Rattle.slots.specs.declared.listing.SlotBlock as listed
 use Rattle.slots.specs.Forms.{list_in, taken_in, list_from, free_in, LaysBoth}
+use Rattle.port_tables.specs.TableSteps.{at_outside}
+use Rattle.port_tables.specs.Listing.{flat_map_on, flat_map_end}
 
 -- Laying.
 
@@ -74,16 +72,6 @@ unfolding laid
 left_none x = record { sizes_are = x.sizes_are; holders_are = x.holders_are }
 
 -- what f gives for the numbers from o on and below n: the first, and the rest
-pub range_on : (f : ℕ → List SlotBlock) (o n : ℕ) → o < n → flat_map f (range o (n - o)) ≡ f o ++ flat_map f (range (o + 1) (n - (o + 1)))
-unfolding flat_map range
-range_on f o n h =
-    let e : n - o ≡ suc (n - (o + 1)) = omega arith in
-    let s : o + 1 ≡ suc o = omega arith in
-    rw (e, s)
-
-pub range_end : (f : ℕ → List SlotBlock) (o n : ℕ) → n ≤ o → flat_map f (range o (n - o)) ≡ []
-unfolding flat_map range
-range_end f o n h = let e : n - o ≡ 0 = omega arith in rw e
 
 -- a free list: none left, the next block, or its bound reached
 pub list_end : (links : List ℕ) (size n : ℕ) → list_from links 0 size n ≡ []
@@ -110,10 +98,10 @@ module _ {whole : List SlotBlock} {s₀ h₀ s h : List ℕ} where
   -- over numbers that ascend
   pub range_turn : (f : ℕ → List SlotBlock) (o n : ℕ) {s' h' : List ℕ} → Left whole (flat_map f (range o (n - o))) s₀ h₀ s h → o < n → LaysBoth (f o) s h s' h' →
       Left whole (flat_map f (range (o + 1) (n - (o + 1)))) s₀ h₀ s' h'
-  range_turn f o n x l y = left_turn {a = f o} (rw (sym (range_on f o n l)) x) y
+  range_turn f o n x l y = left_turn {a = f o} (rw (sym (flat_map_on f o n l)) x) y
 
   pub range_done : (f : ℕ → List SlotBlock) (o n : ℕ) → Left whole (flat_map f (range o (n - o))) s₀ h₀ s h → n ≤ o → LaysBoth whole s₀ h₀ s h
-  range_done f o n x l = left_none (rw (sym (range_end f o n l)) x)
+  range_done f o n x l = left_none (rw (sym (flat_map_end f o n l)) x)
 
   -- along a free list
   pub list_turn : (links : List ℕ) (next size count first wide after : ℕ) {s' h' : List ℕ} → Left whole (list_from links next size (port_slots - count)) s₀ h₀ s h →
@@ -150,7 +138,7 @@ laid_inside t s v e some = go (ltb s port_slots) refl
   where
     go : (b : Bool) → ltb s port_slots ≡ b → s < port_slots
     go true q = ltb-true s port_slots q
-    go false q = absurd (some (e ∙ at_outside t s (ltb-false s port_slots q)))
+    go false q = absurd (some (e ∙ sym (at_outside t s (ltb-false s port_slots q))))
 
 -- so many blocks are listed, and the rest are left
 pub record Listing (whole rest : List SlotBlock) (l₀ l : List listed.SlotBlock) (count : ℕ) : Type 0 where

@@ -15,13 +15,12 @@ use Rattle.portgraph.specs.PlaceLaws.{port_link_to, port_link_none}
 use Rattle.port_tables.specs.declared.direction.Direction.{Direction}
 use Rattle.port_tables.specs.declared.direction.Direction.TheVariants.{Incoming, Outgoing}
 use Rattle.port_tables.specs.declared.release.Release.{Release}
-use Rattle.multiportgraph.specs.Reading.{is_split, seen, side_of, end_at, as_read, subport_of, standing, standing_of, link_of_end, far_subport}
-use Rattle.multi_tables.specs.Forms.{Port, dead, hidden, visible, End, inner, lacking, subport#, good_offset}
+use Rattle.multiportgraph.specs.Reading.{is_split, side_of, end_at, as_read, subport_of, standing, standing_of, far_subport}
+use Rattle.multi_tables.specs.Forms.{Port, subport#}
 use Rattle.multi_tables.specs.EndAnswers.{unplaced}
 use Rattle.multiportgraph.specs.Refusals.{end_of, inner_port}
-use Rattle.multiportgraph.specs.Calls.{link_pair, link_sub, subport_link, cut_plain, cut_port, cut_sub}
-use Rattle.multiportgraph.specs.Cases.{cut_refused, cut_end, cut_sub_seen, link_of_seen}
-use Rattle.multiportgraph.specs.CaseLaws.{cut_sub_cases, subport_link_cases}
+use Rattle.multiportgraph.specs.Calls.{link_pair, link_sub, subport_link, cut_plain, cut_port}
+use Rattle.multiportgraph.specs.CaseLaws.{subport_link_cases}
 use Rattle.multiportgraph.proofs.CutLaws.{cut_cases}
 use Rattle.port_tables.specs.Places.{Place, Wire, spot, wire_of_sides, next_offset}
 use Rattle.multiportgraph.specs.Wires.{place_of}
@@ -33,7 +32,6 @@ use Rattle.multiportgraph.specs.declared.multiportgraph.MultiPortGraph.{MultiPor
 use Rattle.multi_tables.specs.declared.answers.SubportIndex.{SubportIndex}
 use Rattle.multiportgraph.specs.declared.multiportgraph.PortsLinked.{PortsLinked}
 use Rattle.multiportgraph.specs.declared.multiportgraph.PortUnlinked.{PortUnlinked}
-use Rattle.multi_tables.specs.declared.answers.Refusal.TheVariants.{BadOffset}
 use Rattle.theorems.specs.Book.{Call, Book, spot_of, add_wire, read_by}
 use Rattle.theorems.specs.History.{State, next, run}
 use Rattle.theorems.specs.Claims.{Link, by_ports, by_ports_clean, by_subports, linking, LinkedBy}
@@ -46,6 +44,7 @@ use Rattle.theorems.specs.AnswerClaims.{wire_between, AnswersItsWire, PortOfBloc
 use Rattle.port_tables.specs.declared.index.PortIndex.{PortIndex}
 use Rattle.portgraph.specs.declared.portgraph.NoSuchPort.{NoSuchPort}
 use Rattle.multi_tables.specs.declared.answers.Refusal.{Refusal}
+use Rattle.multiportgraph.specs.LowerSteps.{link_cut}
 
 -- Places after a link.
 
@@ -367,25 +366,6 @@ asks_the_book s M r p o h =
 
 -- Cuts.
 
--- a cut at a subport answers what asking does
-pub cut_sub_answers : (m : MultiPortGraph) (p o : ℕ) → (cut_sub m p o).answer ≡ subport_link m p o
-unfolding unlink_port
-cut_sub_answers m p o =
-    ap (λ (v : PortUnlinked). v.answer) (cut_sub_cases m p o) ∙ (offset (good_offset o) ∙ sym (subport_link_cases m p o))
-  where
-    ends : (v : End) → (cut_end m p v).answer ≡ link_of_end m p v
-    ends (inner x) = refl
-    ends lacking = refl
-
-    ports : (v : Port) → (cut_sub_seen m p o v).answer ≡ link_of_seen m p o v
-    ports dead = refl
-    ports hidden = refl
-    ports (visible n d) = ends (end_at m p d o)
-
-    offset : (b : Bool) → (cond b (cut_sub_seen m p o (seen m p)) (cut_refused m BadOffset)).answer ≡ cond b (link_of_seen m p o (seen m p)) (Err BadOffset)
-    offset true = ports (seen m p)
-    offset false = refl
-
 -- a split port answers itself, an unsplit one its inner link
 module _ (m : MultiPortGraph) (p : ℕ) (b : PortOfBlock m p) where
   pub cut_split : is_split m p ≡ true → (cut_port m p).answer ≡ Ok (Some (subport# p 0, standing m (subport# p 0)))
@@ -509,7 +489,7 @@ answers_are_wires release calls =
     let r = rel_run release calls in
     record {
       asks = asks_the_book (run release calls) r.0 r.1;
-      cuts_sub = cut_sub_answers (run release calls).graph;
+      cuts_sub = λ p o. sym (link_cut (run release calls).graph p o);
       cuts = cuts_the_book (run release calls) r.0 r.1;
     }
 

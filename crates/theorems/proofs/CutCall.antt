@@ -1,11 +1,11 @@
 -- Cutting every wire at a port: its bundle.
 use Rattle.std.specs.Prelude.{◌≡◌, refl, Bool, true, false, ℕ, Option, Some, None, Result, Ok, Err}
-use Rattle.std.proofs.Common.{sym, ◌∙◌, ap, subst}
+use Rattle.std.proofs.Common.{sym, subst}
 use Rattle.portgraph.specs.Model.{Model}
 use Rattle.portgraph.specs.Calls.{unlink_port}
 use Rattle.port_tables.specs.declared.direction.Direction.{Direction}
-use Rattle.multiportgraph.specs.Reading.{is_split, seen}
-use Rattle.multi_tables.specs.Forms.{Port, dead, hidden, visible}
+use Rattle.multiportgraph.specs.Reading.{is_split}
+use Rattle.multi_tables.specs.Forms.{dead, hidden, visible}
 use Rattle.multiportgraph.specs.Calls.{cut_plain, cut_port}
 use Rattle.theorems.specs.Book as book
 use Rattle.multiportgraph.specs.WellFormed.{Fine}
@@ -16,7 +16,7 @@ use Rattle.port_tables.specs.Places.{at_spot}
 use Rattle.multiportgraph.specs.Cases.{cut_refused, cut_seen}
 use Rattle.multiportgraph.specs.CopyLaws.{port_at}
 use Rattle.theorems.proofs.WireRule.{after_cut}
-use Rattle.multiportgraph.proofs.CutLaws.{cut_cases, cut_port_law, cut_space}
+use Rattle.multiportgraph.proofs.CutLaws.{cut_port_law, cut_space, cut_port_seen}
 use Rattle.theorems.specs.Works.{works_of}
 use Rattle.theorems.specs.Conditions.{CutRefused, CutSays, PortIs, block_port, cut_dead, cut_hidden, hidden_port, no_port}
 use Rattle.theorems.specs.PortCases.{port_is, seen_block_port, seen_hidden_port, seen_none}
@@ -27,12 +27,9 @@ use Rattle.portgraph.specs.declared.portgraph.NoSuchPort.{NoSuchPort}
 -- Cutting a port.
 
 module _ {m : MultiPortGraph} {M : Model} (f : Fine m M) (p : ℕ) where
-  cut_is : (v : Port) → seen m p ≡ v → cut_port m p ≡ cut_seen m p v
-  cut_is v e = cut_cases m p ∙ ap (cut_seen m p) e
-
   pub cut_refuses : (r : Refusal) → CutRefused m M p r → cut_port m p ≡ cut_refused m r
-  cut_refuses r (cut_dead d) = cut_is dead (seen_none f p d)
-  cut_refuses r (cut_hidden h) = cut_is hidden (seen_hidden_port f p h)
+  cut_refuses r (cut_dead d) = sym (cut_port_seen m p dead (seen_none f p d))
+  cut_refuses r (cut_hidden h) = sym (cut_port_seen m p hidden (seen_hidden_port f p h))
 
   cut_says : CutSays (CutRefused m M p) (cut_port m p).answer
   cut_says = go (port_is f p)
@@ -50,7 +47,7 @@ module _ {m : MultiPortGraph} {M : Model} (f : Fine m M) (p : ℕ) where
       go (no_port d) = subst (λ (v : PortUnlinked). CutSays (CutRefused m M p) v.answer) (sym (cut_refuses _ (cut_dead d))) (cut_dead d)
       go (hidden_port h) = subst (λ (v : PortUnlinked). CutSays (CutRefused m M p) v.answer) (sym (cut_refuses _ (cut_hidden h))) (cut_hidden h)
       go (block_port x b) =
-          subst (λ (v : PortUnlinked). CutSays (CutRefused m M p) v.answer) (sym (cut_is (visible x.node x.side) (seen_block_port f p x b)))
+          subst (λ (v : PortUnlinked). CutSays (CutRefused m M p) v.answer) (cut_port_seen m p (visible x.node x.side) (seen_block_port f p x b))
           (marked x.node x.side (is_split m p) refl)
 
   pub cut_refused_lem : (r : Refusal) → (cut_port m p).answer ≡ Err r → CutRefused m M p r

@@ -11,7 +11,6 @@ use Rattle.portgraph.specs.GoodSlots.{zero_is_not_one}
 use Rattle.portgraph.specs.GoodLaws.{same_side_is}
 use Rattle.portgraph.specs.LinkHolds.{Dead}
 use Rattle.port_tables.specs.declared.direction.Direction.{Direction}
-use Rattle.port_tables.specs.declared.direction.Direction.TheVariants.{Incoming, Outgoing}
 use Rattle.port_tables.specs.declared.index.PortIndex.{PortIndex}
 use Rattle.multiportgraph.specs.Reading.{seen}
 use Rattle.multi_tables.specs.Forms.{Port, dead, hidden, visible, subport#}
@@ -36,6 +35,7 @@ use Rattle.theorems.specs.PortCases.{port_is, seen_block_port, seen_hidden_port,
 use Rattle.theorems.specs.TakenLaws.{free_so, so_free, so_taken, taken_so}
 use Rattle.theorems.proofs.CallLaw.{CallLaw}
 use Rattle.multiportgraph.specs.Calls.{link_pair, link_pair_if}
+use Rattle.portgraph.specs.Joins.{same_side_refl, same_side_false}
 
 -- Linking ports.
 
@@ -47,15 +47,8 @@ module _ {m : MultiPortGraph} {M : Model} (f : Fine m M) where
   pub block_not_hidden : (p : ℕ) (x : model.InnerPlace) → OfBlock m M p x → OfHidden m M p → ⊥
   block_not_hidden p x b h = let u = seen_block_port f p x b in let v = seen_hidden_port f p h in zero_is_not_one (cc)
 
-same_self : (d : Direction) → same_side d d ≡ true
-same_self Incoming = refl
-same_self Outgoing = refl
-
 pub sides_same : (d e : Direction) → d ≡ e → same_side d e ≡ true
-sides_same d e q = ap (same_side d) (sym q) ∙ same_self d
-
-pub sides_differ : (d e : Direction) → same_side d e ≡ false → d ≡ e → ⊥
-sides_differ d e s q = let t = sides_same d e q in zero_is_not_one (cc)
+sides_same d e q = ap (same_side d) (sym q) ∙ same_side_refl d
 
 module _ {m : MultiPortGraph} {M : Model} (f : Fine m M) (a b : ℕ) where
   -- 7 and 8 come before 18
@@ -135,7 +128,7 @@ module _ {m : MultiPortGraph} {M : Model} (f : Fine m M) (a b : ℕ) where
           prepare m a x.side ≡ ready m₁ u o → prepare m₁ b y.side ≡ ready m₂ v r → (c : Bool) → same_side x.side y.side ≡ c → LinkSaid (link_pair m a b)
       sides free x y m₁ m₂ u o v r s t e g true c = so m₂ _ (link_one_side x y m₁ m₂ u o v r s t free e g (same_side_is x.side y.side c))
       sides free x y m₁ m₂ u o v r s t e g false c =
-          subst LinkSaid (sym (links_otherwise free x y m₁ m₂ u o v r s t e g (sides_differ x.side y.side c))) tt
+          subst LinkSaid (sym (links_otherwise free x y m₁ m₂ u o v r s t e g (same_side_false x.side y.side c))) tt
 
       second : (Taken m M a b → ⊥) → (x y : model.InnerPlace) (m₁ : MultiPortGraph) (u o : ℕ) → OfBlock m M a x → OfBlock m M b y → prepare m a x.side ≡ ready m₁ u o →
           (w : Prepared) → prepare m₁ b y.side ≡ w → LinkSaid (link_pair m a b)

@@ -5,7 +5,7 @@ use Rattle.port_tables.specs.Limits.{present}
 use Rattle.port_tables.specs.Entries.{port#, same_side}
 use Rattle.portgraph.specs.Model as model
 use Rattle.portgraph.specs.Model.{Model}
-use Rattle.portgraph.specs.Joins.{same_side_distinct}
+use Rattle.portgraph.specs.Joins.{same_side_distinct, same_side_false}
 use Rattle.portgraph.specs.GoodSlots.{zero_is_not_one}
 use Rattle.portgraph.specs.GoodLaws.{same_side_is}
 use Rattle.port_tables.specs.declared.direction.Direction.{Direction}
@@ -36,7 +36,7 @@ use Rattle.theorems.specs.LinkLaw as law
 use Rattle.theorems.specs.LinkLaw.{link_says_if, nothing_left}
 use Rattle.theorems.proofs.WireRule.{after_link}
 use Rattle.theorems.proofs.CallLaw.{CallLaw, whole}
-use Rattle.theorems.proofs.LinkCall.{block_not_hidden, dead_not_hidden, link_refuses, links_otherwise, sides_differ, sides_same, wired_seen}
+use Rattle.theorems.proofs.LinkCall.{block_not_hidden, dead_not_hidden, link_refuses, links_otherwise, sides_same, wired_seen}
 
 -- On any graph: a link of ports that is accepted is the link that leaves no stub, and the other way round.
 module _ (m : MultiPortGraph) (a b : ℕ) (x y : SubportIndex) where
@@ -186,13 +186,13 @@ module _ {m : MultiPortGraph} {M : Model} (f : Fine m M) (a b : ℕ) where
 
       second : (Taken m M a b → ⊥) → (x y : model.InnerPlace) (m₁ : MultiPortGraph) (u o : ℕ) → OfBlock m M a x → OfBlock m M b y → same_side x.side y.side ≡ false →
           prepare m a x.side ≡ ready m₁ u o → (w : Prepared) → prepare m₁ b y.side ≡ w → Said (link_clean m a b)
-      second free x y m₁ u o s t c e full g = so _ (clean_full x y s t (sides_differ x.side y.side c) (link_second_full x y m₁ u o s t free e g))
+      second free x y m₁ u o s t c e full g = so _ (clean_full x y s t (same_side_false x.side y.side c) (link_second_full x y m₁ u o s t free e g))
       second free x y m₁ u o s t c e (ready m₂ v r) g =
-          subst Said (sym (clean_opposite free x y s t c ∙ links_otherwise f a b free x y m₁ m₂ u o v r s t e g (sides_differ x.side y.side c))) tt
+          subst Said (sym (clean_opposite free x y s t c ∙ links_otherwise f a b free x y m₁ m₂ u o v r s t e g (same_side_false x.side y.side c))) tt
 
       prepared : (Taken m M a b → ⊥) → (x y : model.InnerPlace) → OfBlock m M a x → OfBlock m M b y → same_side x.side y.side ≡ false →
           (w : Prepared) → prepare m a x.side ≡ w → Said (link_clean m a b)
-      prepared free x y s t c full e = so _ (clean_full x y s t (sides_differ x.side y.side c) (link_first_full x s (block_not_hidden f b y t) free e))
+      prepared free x y s t c full e = so _ (clean_full x y s t (same_side_false x.side y.side c) (link_first_full x s (block_not_hidden f b y t) free e))
       prepared free x y s t c (ready m₁ u o) e = second free x y m₁ u o s t c e (prepare m₁ b y.side) refl
 
       sides : (Taken m M a b → ⊥) → (x y : model.InnerPlace) → OfBlock m M a x → OfBlock m M b y → (c : Bool) → same_side x.side y.side ≡ c → Said (link_clean m a b)

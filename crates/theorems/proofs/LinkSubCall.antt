@@ -34,10 +34,11 @@ use Rattle.theorems.specs.Conditions.{Lacks, LinkSays, LinkSubRefused, OfBlock, 
 use Rattle.theorems.specs.PortCases.{end_is_lem, is_end, is_lacking, lacks_is, not_lacking, port_is, seen_block_port, seen_hidden_port, seen_none}
 use Rattle.theorems.specs.TakenLaws.{free_so, so_free, so_taken, taken_so}
 use Rattle.theorems.proofs.CallLaw.{CallLaw, whole}
-use Rattle.theorems.proofs.LinkCall.{block_not_hidden, dead_not_hidden, sides_differ}
+use Rattle.theorems.proofs.LinkCall.{block_not_hidden, dead_not_hidden}
 use Rattle.portgraph.specs.declared.portgraph.LinkError.TheVariants as link_error
 use Rattle.port_tables.specs.declared.index.PortIndex.{PortIndex}
 use Rattle.portgraph.specs.declared.portgraph.LinkError.{LinkError}
+use Rattle.portgraph.specs.Joins.{same_side_false}
 
 -- Linking subports.
 
@@ -186,7 +187,7 @@ module _ {m : MultiPortGraph} {M : Model} (f : Fine m M) (p o q r : ℕ) where
       sides : Offsets o r → (x y : model.InnerPlace) (u v : ℕ) → OfBlock m M p x → OfBlock m M q y → EndOf m M x o u → EndOf m M y r v → (Taken m M p q → ⊥) →
           (c : Bool) → same_side x.side y.side ≡ c → SubSaid (link_sub m p o q r)
       sides h x y u v s t e g free true c = so _ (sub_one_side h x y u v s t e g free (same_side_is x.side y.side c))
-      sides h x y u v s t e g free false c = linked h x y u v s t e g free (sides_differ x.side y.side c) (M.join e.end) (M.join g.end) refl refl
+      sides h x y u v s t e g free false c = linked h x y u v s t e g free (same_side_false x.side y.side c) (M.join e.end) (M.join g.end) refl refl
 
       -- 18, or the rest
       wired : Offsets o r → (x : model.InnerPlace) → OfBlock m M p x → (OfHidden m M q → ⊥) → (Lacks m M x o → ⊥) → ((y : model.InnerPlace) → OfBlock m M q y → Lacks m M y r → ⊥) →

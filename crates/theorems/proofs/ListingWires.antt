@@ -4,11 +4,12 @@ use Rattle.std.specs.Prelude.{◌≡◌, Bool, false, ◌↔◌, ℕ, ◌<◌, l
 use Rattle.std.proofs.Math.Path.{refl, sym, ap}
 use Rattle.std.proofs.Common.{◌∙◌, subst, inl, inr, ⊎_elim, arith}
 use Rattle.std.proofs.Math.Bool.{true, cond}
-use mathlib.Core.List.{List, [], ◌∷◌, map}
+use mathlib.Core.List.{List, [], ◌∷◌, map, map-append}
 use Rattle.std.proofs.Math.Dec.{eqb}
 use borrow.Author.Tests.{leb-true, leb-false, le-leb, eq-eqb, eqb-true}
 use Rattle.port_tables.specs.Limits.{node_slots}
-use Rattle.port_tables.specs.Lists.{range, filter, Member, Rising}
+use Rattle.port_tables.specs.Lists.{range, Member, Rising}
+use Rattle.std.specs.List.{filter}
 use Rattle.portgraph.specs.Model as model
 use Rattle.portgraph.specs.Model.{Model, slot_of}
 use Rattle.port_tables.specs.Entries.{same_side}
@@ -27,9 +28,9 @@ use Rattle.port_tables.specs.Places.{Place, Wire, Spot, spot, at_spot, touches, 
 use Rattle.multiportgraph.specs.Wires.{is_block, blocks, ports_of_side, subports_of_port, subports_of_side, wire_of, side_links, place_of}
 use Rattle.multiportgraph.specs.Walks.{port_links_seen, port_links, not_skipped, node_links, not_ignored, neighbour_links, neighbours, connections}
 use Rattle.multiportgraph.specs.WellFormed.{inner#, Fine, BlockIs, Seen, lift}
-use Rattle.multiportgraph.specs.Ends.{seen_block, block_seen, ends_join_ends, outer_seen, place_of_sub, map_append}
+use Rattle.multiportgraph.specs.Ends.{seen_block, block_seen, ends_join_ends, outer_seen, place_of_sub}
 use Rattle.multiportgraph.specs.LinkCutLaws.{at_spot_here, at_spot_is}
-use Rattle.port_tables.specs.Listing.{Apart, member_filter, filter_member, member_flat_map, flat_map_member, member_map, map_member, filter_append, rising_filter, rising_map, rising_once}
+use Rattle.port_tables.specs.Listing.{Apart, member_filter, filter_member, member_flat_map, flat_map_member, member_map, map_member, rising_filter, rising_map, rising_once}
 use Rattle.multiportgraph.specs.ScanLaws.{block_not_hidden, block_has_meta}
 use Rattle.multiportgraph.specs.declared.multiportgraph.MultiPortGraph.{MultiPortGraph}
 use Rattle.multi_tables.specs.declared.answers.SubportIndex.{SubportIndex}
@@ -44,6 +45,7 @@ use Rattle.theorems.specs.WalkStepLaws.{link_offset, port_links_rise}
 use Rattle.theorems.specs.BlockWalkLaws.{Ahead, block_links_rise}
 use Rattle.theorems.specs.ListingClaims.{wire_from, Exactly, InBook, OverSides, OutOfRange, FarNodes, NotOwnOutput}
 use Rattle.theorems.specs.ListedLinks.{LinkIs, Found, placed_link, own_end, far_end, own_touches, from_place, link_wire, same_from, wire_found, touched_own, port_link_lem, port_has_link, wire_is, sub_read}
+use Rattle.std.proofs.lemmas.List.Elements.{filter-append}
 
 -- the far nodes of listed links
 far_nodes : (m : MultiPortGraph) (d : Direction) (l : List SubportLink) →
@@ -357,7 +359,7 @@ listings_are_wires_of_node release calls n b Both lo hi =
     let m = (run release calls).graph in (
       filter (not_skipped lo hi) (side_links m Incoming n),
       filter (not_skipped lo hi) (side_links m Outgoing n),
-      filter_append (not_skipped lo hi) (side_links m Incoming n) (side_links m Outgoing n),
+      filter-append (not_skipped lo hi) (side_links m Incoming n) (side_links m Outgoing n),
       lists_exactly (node_links_list r n k.0 k.1 lo hi Incoming),
       lists_exactly (node_links_list r n k.0 k.1 lo hi Outgoing),
     )
@@ -379,8 +381,8 @@ listings_are_wires_of_neighbours release calls n b Both flag =
     let c = filter (not_ignored m n flag) (side_links m Outgoing n) in (
       map (λ (w : SubportLink). owner_of m.graph w.to.port.0) a,
       map (λ (w : SubportLink). owner_of m.graph w.to.port.0) c,
-      ap (map (λ (w : SubportLink). owner_of m.graph w.to.port.0)) (filter_append (not_ignored m n flag) (side_links m Incoming n) (side_links m Outgoing n))
-          ∙ map_append (λ (w : SubportLink). owner_of m.graph w.to.port.0) a c,
+      ap (map (λ (w : SubportLink). owner_of m.graph w.to.port.0)) (filter-append (not_ignored m n flag) (side_links m Incoming n) (side_links m Outgoing n))
+          ∙ map-append (λ (w : SubportLink). owner_of m.graph w.to.port.0) a c,
       (map (wire_from m Incoming) a, lists_exactly (neighbour_links_list r n k.0 k.1 flag Incoming), far_nodes m Incoming a),
       (map (wire_from m Outgoing) c, lists_exactly (neighbour_links_list r n k.0 k.1 flag Outgoing), far_nodes m Outgoing c),
     )

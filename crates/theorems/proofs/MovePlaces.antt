@@ -7,14 +7,15 @@ use Rattle.std.specs.Prelude.{◌≡◌, Bool, ltb, length, drop, Option, Some, 
 use Rattle.std.proofs.Math.Path.{refl, sym, ap, subst}
 use Rattle.std.proofs.Common.{◌∙◌, inl, inr, length-append, get_or-set_same}
 use Rattle.std.proofs.Math.Bool.{true, false, cond}
-use mathlib.Core.List.{List, [], ◌∷◌, ◌++◌, map, flat_map}
+use mathlib.Core.List.{List, [], ◌∷◌, ◌++◌, map, flat_map, map-append}
 use Prim.Native.Nat.{ℕ, zero, suc, ◌+◌, ◌-◌, ◌*◌, ◌≤◌, ◌<◌, min}
 use native.Mathlib.Omega.{arith}
 use Rattle.std.proofs.Math.Dec.{eqb, leb}
 use Rattle.std.proofs.lemmas.List.Edits.{sets-eq}
-use borrow.Author.Tests.{leb-true, eqb-true, eqb-false, le-leb, eq-eqb, ne_eqb}
+use borrow.Author.Tests.{leb-true, eqb-true, eqb-false, le-leb, ne_eqb}
 use Rattle.port_tables.specs.Limits.{node_ports, no_port, present}
-use Rattle.port_tables.specs.Lists.{range, filter, Member}
+use Rattle.port_tables.specs.Lists.{range, Member}
+use Rattle.std.specs.List.{filter}
 use Rattle.port_tables.specs.Entries.{ports_on, node_slot_of, fresh_slot, meta_of_entry, meta_of}
 use Rattle.port_tables.specs.Tables.{at, cut, cut_range, told_link, drop_events, move_up_events, move_down_events, shift_events}
 use Rattle.portgraph.specs.Lookups.{meta_at, num_ports, node_port_capacity, count_in, capacity_in}
@@ -25,7 +26,7 @@ use Rattle.portgraph.specs.Resize.{Plan, refuse, same, inside, anew, plan_of, re
 use Rattle.port_tables.specs.ResizeLinks.{round_up, same_counts, fits_inside, first_slot, kept_incoming, kept_outgoing, drop_incoming, drop_told}
 use Rattle.portgraph.specs.ResizeLaws.{plan_live, plan_law, events_of, told_length, events_fit}
 use Rattle.portgraph.specs.SlotHolds.{block_room}
-use Rattle.portgraph.specs.GoodSlots.{zero_is_not_one, joined_is_valid}
+use Rattle.portgraph.specs.GoodSlots.{zero_is_not_one, joined_is_valid, node_below}
 use Rattle.portgraph.specs.Joins.{same_place_true, same_place_false, same_place_distinct}
 use Rattle.portgraph.specs.LinkLaws.{Rep, far_is, cut_at}
 use Rattle.portgraph.specs.PlaceLaws.{meta_of_node, node_of_meta, rep_of}
@@ -43,7 +44,7 @@ use Rattle.multiportgraph.specs.Calls.{set_as, set_counts, moves_told, moves_tol
 use Rattle.multiportgraph.specs.Cases.{resized, set_meta}
 use Rattle.multiportgraph.specs.CaseLaws.{set_cases}
 use Rattle.multiportgraph.specs.WellFormed.{inner#, Fine}
-use Rattle.multiportgraph.specs.Ends.{map_append, filter_append, port_of_lem, far_of, linked_is, unlinked_is}
+use Rattle.multiportgraph.specs.Ends.{port_of_lem, far_of, linked_is, unlinked_is}
 use Rattle.multiportgraph.specs.RecountLaws.{Recount, SomeRecount, set_recounts}
 use Rattle.multiportgraph.specs.Space.{Room, room_of, block_taken, after_work, after_works, overflows, gone_works, copies_gone, move_works, recount_works, set_meta_works, set_works}
 use Rattle.multiportgraph.specs.SpaceLaws.{after_append, room_is, set_counts_space}
@@ -57,6 +58,8 @@ use Rattle.multi_tables.specs.declared.answers.Refusal.TheVariants.{NoRoom}
 use Rattle.multiportgraph.specs.declared.multiportgraph.PortsSet.{PortsSet}
 use Rattle.portgraph.specs.declared.resize.SetError.TheVariants as set_error
 use Rattle.portgraph.specs.declared.resize.SetError.{SetError}
+use Rattle.port_tables.specs.TableSteps.{told_none, told_far}
+use Rattle.std.proofs.lemmas.List.Elements.{filter-append}
 
 -- Lists.
 
@@ -106,14 +109,6 @@ ports_here (suc c) g n d j s a =
     rw p (ap (λ (l : List ℕ). s ∷ l) (ports_here c g n d (suc j) (suc s) (λ x l. ap (port_of g n d) (omega arith) ∙ (a (suc x) (omega arith) ∙ omega arith))))
 
 -- Places that are dropped: the table as it is cut, and what was told.
-
-told_none : (far : ℕ) → far ≡ 0 → told_link far ≡ no_port
-unfolding told_link
-told_none far e = rw (eq-eqb far 0 e)
-
-told_far : (far s : ℕ) → far ≡ suc s → told_link far ≡ s
-unfolding told_link
-told_far far s e = let d : far - 1 ≡ s = omega arith in rw (ne_eqb far 0 (λ z. omega arith), d)
 
 later_new : (p : ℕ) (earlier : List ℕ) → ((q : ℕ) → p ≤ q → is_one_of q earlier ≡ false) → (q : ℕ) → suc p ≤ q → is_one_of q (p ∷ earlier) ≡ false
 unfolding is_one_of
@@ -174,13 +169,15 @@ module _ {m : MultiPortGraph} {M : Model} (f : Fine m M) where
         linked : (y : model.InnerPlace) → M.join x ≡ to y → (b : Bool) → is_one_of (slot_of M.node y) earlier ≡ b →
             told_link (at t (slot_of M.node x)) ≡ cond b no_port (slot_of M.node y)
         linked y j true e =
-            told_none (at t (slot_of M.node x)) (held ∙ ap (λ (w : Far). far_is (slot_of M.node) (left_of (slot_of M.node) earlier w)) j ∙ ap (λ (b : Bool). far_is (slot_of M.node) (cond b nowhere (to y))) e)
+            sym (told_none (at t (slot_of M.node x)) (held ∙ ap (λ (w : Far). far_is (slot_of M.node) (left_of (slot_of M.node) earlier w)) j ∙ ap (λ (b : Bool). far_is (slot_of M.node) (cond b nowhere (to y))) e))
         linked y j false e =
-            told_far (at t (slot_of M.node x)) (slot_of M.node y) (held ∙ ap (λ (w : Far). far_is (slot_of M.node) (left_of (slot_of M.node) earlier w)) j ∙ ap (λ (b : Bool). far_is (slot_of M.node) (cond b nowhere (to y))) e)
+            let far : at t (slot_of M.node x) ≡ suc (slot_of M.node y) = held ∙ ap (λ (w : Far). far_is (slot_of M.node) (left_of (slot_of M.node) earlier w)) j ∙ ap (λ (b : Bool). far_is (slot_of M.node) (cond b nowhere (to y))) e in
+            let told : at t (slot_of M.node x) - 1 ≡ slot_of M.node y = omega arith in
+            sym (told_far (at t (slot_of M.node x)) (λ z. omega arith)) ∙ told
 
         go : (w : Far) → M.join x ≡ w → told_link (at t (slot_of M.node x)) ≡ cond (has_link m.graph (slot_of M.node x)) (cond (is_one_of (far_port m.graph (slot_of M.node x)) earlier) no_port (far_port m.graph (slot_of M.node x))) no_port
         go nowhere j =
-            rw (unlinked_is f x v j) (told_none (at t (slot_of M.node x)) (held ∙ ap (λ (w : Far). far_is (slot_of M.node) (left_of (slot_of M.node) earlier w)) j))
+            rw (unlinked_is f x v j) (sym (told_none (at t (slot_of M.node x)) (held ∙ ap (λ (w : Far). far_is (slot_of M.node) (left_of (slot_of M.node) earlier w)) j)))
         go (to y) j = rw (linked_is f x y j, far_of f x y j) (linked y j (is_one_of (slot_of M.node y) earlier) refl)
 
   -- a run of ports that are dropped
@@ -236,7 +233,7 @@ module _ {m : MultiPortGraph} {M : Model} (f : Fine m M) where
         let po : map (port_here m.graph n) (map (on_side Outgoing) (range o (k.outgoing - o))) ≡ range (first_slot k + k.incoming + kept_outgoing k o) (k.outgoing - kept_outgoing k o) =
         ports_here (k.outgoing - o) m.graph n Outgoing o (first_slot k + k.incoming + kept_outgoing k o) (λ x l. port_here_lem Outgoing (o + x) (omega arith) ∙ omega arith)
         ∙ ap (range (first_slot k + k.incoming + kept_outgoing k o)) co in
-        map_append (port_here m.graph n) (map (on_side Incoming) (range i (k.incoming - i))) (map (on_side Outgoing) (range o (k.outgoing - o)))
+        map-append (port_here m.graph n) (map (on_side Incoming) (range i (k.incoming - i))) (map (on_side Outgoing) (range o (k.outgoing - o)))
         ∙ (λ q. pi q ++ po q)
 
     dropped_told : (i o : ℕ) → drop_told m.graph.port_link k i o ≡ removed_events m.graph [] (map (port_here m.graph n) (dropped_places k.incoming k.outgoing i o))
@@ -281,8 +278,7 @@ module _ {m : MultiPortGraph} {M : Model} (f : Fine m M) (n : ℕ) (k : NodeMeta
 
   in_table : n < length m.graph.node_meta
   in_table =
-      let u = f.good.node_used n k here in
-      let l = f.good.nodes_fit in
+      let u = node_below f.good n k here in
       let s = f.holds.nodes_long in
       omega arith
 
@@ -510,7 +506,7 @@ events_answered release calls n i o room e ok =
 -- Hidden nodes of dropped ports.
 
 copies_are : (c : ℕ) (m : MultiPortGraph) (p : ℕ) → copies_in m p c ≡ map (copy_node m) (filter (is_split m) (range p c))
-unfolding copies_in filter range
+unfolding copies_in range
 copies_are zero m p = refl
 copies_are (suc c) m p = go (is_split m p) (copies_are c m (suc p))
   where
@@ -528,8 +524,8 @@ copies_told {m} f n k here i o =
     let ports : copies_dropped m k i o ≡ map (copy_node m) (filter (is_split m) a) ++ map (copy_node m) (filter (is_split m) b) =
     λ q. copies_are (k.incoming - kept_incoming k i) m (first_slot k + kept_incoming k i) q ++ copies_are (k.outgoing - kept_outgoing k o) m (first_slot k + k.incoming + kept_outgoing k o) q in
     ports
-    ∙ (sym (map_append (copy_node m) (filter (is_split m) a) (filter (is_split m) b))
-    ∙ (ap (map (copy_node m)) (sym (filter_append (is_split m) a b) ∙ ap (filter (is_split m)) (sym (dropped_ports f n k here i o)))
+    ∙ (sym (map-append (copy_node m) (filter (is_split m) a) (filter (is_split m) b))
+    ∙ (ap (map (copy_node m)) (sym (filter-append (is_split m) a b) ∙ ap (filter (is_split m)) (sym (dropped_ports f n k here i o)))
     ∙ (λ q. map (copy_node m) (filter (is_split m) (map (port_here m.graph n) (dropped_places (count_in (sym meta q) Incoming) (count_in (sym meta q) Outgoing) i o))))))
 
 -- the resize itself gives no node back

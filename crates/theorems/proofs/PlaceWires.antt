@@ -1,5 +1,4 @@
 -- Where an end that is answered, or given by a walk, stands: at the far end of the book's wire.
-use Rattle.theorems.specs.Pairs.{some_pair}
 use Rattle.std.specs.Prelude.{◌≡◌, Bool, true, false, cond, List, [], ◌∷◌, ℕ, zero, suc, Option, Some, None, Result, Ok, Err}
 use Rattle.std.proofs.Math.Path.{refl}
 use Rattle.std.proofs.Common.{sym, ◌∙◌, ap, subst, inl, arith, ltb-true, eq-eqb}
@@ -39,7 +38,7 @@ use Rattle.theorems.specs.History.{State, run}
 use Rattle.theorems.proofs.WireRule.{Rel, spot_of_lem}
 use Rattle.theorems.proofs.CallLaws.{rel_run}
 use Rattle.theorems.specs.AnswerClaims.{wire_between, PortOfBlock, EndThere}
-use Rattle.theorems.proofs.AnswerWires.{place_at, asked_linked, asked_far, found_link, found_booked, here, itself, read_plain, cut_linked, cut_free, cut_split, cut_sub_answers}
+use Rattle.theorems.proofs.AnswerWires.{place_at, asked_linked, asked_far, found_link, found_booked, here, itself, read_plain, cut_linked, cut_free, cut_split}
 use Rattle.theorems.specs.ListedLinks.{LinkIs, far_end, from_place, link_wire, port_link_lem}
 use Rattle.theorems.proofs.ListingWires.{side_link}
 use Rattle.theorems.specs.BlockWalkLaws.{by_sides_member}
@@ -47,6 +46,8 @@ use Rattle.theorems.specs.WalkHeldLaws.{port_links_give, port_links_give_back, l
 use Rattle.theorems.proofs.WiresHeld.{wires_give}
 use Rattle.theorems.specs.PlaceClaims.{FarStands, OwnPlace, PlacesAreWires}
 use Rattle.multi_tables.specs.declared.answers.Refusal.{Refusal}
+use Rattle.multiportgraph.specs.LowerSteps.{link_cut}
+use Rattle.std.proofs.lemmas.Option.{some_pair_parts}
 
 -- a wire of the book between two subports, and where the second one stands
 far_stands : (s : State) (near far : SubportIndex) (x : PortPlace) → Member (wire_between s.graph near far) s.book.wires → x ≡ standing s.graph far → FarStands s near far x
@@ -197,7 +198,7 @@ module _ (s : State) {M : Model} (r : Rel s.graph M s.book) where
 
 -- what a step over all wires gives is listed
 first_listed : (l : List SubportLink) (w : SubportLink) (d : Wires) → first_item l ≡ Some (w, d) → Member w l
-first_listed (v ∷ l) w d e = inl (sym (some_pair e).0)
+first_listed (v ∷ l) w d e = inl (sym (some_pair_parts _ _ _ _ e).0)
 first_listed [] w d e = absurd (zero_is_not_one (cc))
 
 from_start : (m : MultiPortGraph) (c : Wires) → c.held.port ≡ 0 → step_wires m c ≡ first_item (all_wires m)
@@ -215,7 +216,7 @@ pub places_are_wires : (release : Release) (calls : List Call) → PlacesAreWire
 places_are_wires release calls =
     record {
       asks = asked_stands s r;
-      cuts_sub = λ p o t x e. asked_stands s r p o t x (sym (cut_sub_answers s.graph p o) ∙ e);
+      cuts_sub = λ p o t x e. asked_stands s r p o t x (link_cut s.graph p o ∙ e);
       cuts_plain = plain_stands s r;
       cuts_split = split_stands s r;
       links = λ c d w e. port_stands s r c.port.0 w (port_links_give s.graph c d w e).0;

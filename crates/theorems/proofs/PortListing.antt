@@ -4,14 +4,15 @@ use Rattle.std.specs.Prelude.{◌≡◌, Bool, length}
 use Rattle.std.proofs.Math.Path.{refl, sym, ap, subst}
 use Rattle.std.proofs.Common.{◌∙◌, ⊎_elim, arith}
 use Rattle.std.proofs.Math.Bool.{true, false, cond}
-use mathlib.Core.List.{List, [], ◌∷◌, ◌++◌, flat_map}
+use mathlib.Core.List.{List, ◌++◌, flat_map}
 use Prim.Native.Nat.{ℕ, ◌+◌, ◌<◌}
 use Rattle.port_tables.specs.Limits.{node_slots, port_slots}
-use Rattle.port_tables.specs.Lists.{range, filter, Member, Rising}
+use Rattle.port_tables.specs.Lists.{range, Member, Rising}
+use Rattle.std.specs.List.{filter}
 use Rattle.portgraph.specs.Lookups.{contains_node, is_some, num_ports}
 use Rattle.portgraph.specs.Model as model
 use Rattle.portgraph.specs.Model.{Model, Slots, gone, live, Valid, slot_of, count_of}
-use Rattle.portgraph.specs.GoodSlots.{zero_is_not_one, slot_in_range, slots_apart}
+use Rattle.portgraph.specs.GoodSlots.{zero_is_not_one, slot_in_range, slots_apart, node_below}
 use Rattle.portgraph.specs.PlaceLaws.{meta_of_node, gone_has_no_meta}
 use Rattle.port_tables.specs.declared.direction.Direction.{Direction}
 use Rattle.port_tables.specs.declared.direction.Direction.TheVariants.{Incoming, Outgoing}
@@ -23,7 +24,7 @@ use Rattle.multiportgraph.specs.Wires.{is_block, blocks, ports_of_side}
 use Rattle.multiportgraph.specs.Walks.{is_seen, all_ports, ports_by_block}
 use Rattle.multiportgraph.specs.WellFormed.{inner#, Fine, BlockIs, Seen}
 use Rattle.multiportgraph.specs.Ends as ends
-use Rattle.port_tables.specs.Listing.{Apart, member_left, member_right, member_append, member_filter, filter_member, member_flat_map, flat_map_member, member_map, map_member, member_range, range_member, rising_append, rising_filter, rising_flat_map, rising_map, range_rises, partners}
+use Rattle.port_tables.specs.Listing.{Apart, member_left, member_right, member_append, member_filter, filter_member, member_flat_map, flat_map_member, member_map, map_member, member_range, range_member, rising_append, rising_filter, rising_flat_map, rising_map, range_rises, partners, numbers_apart}
 use Rattle.theorems.proofs.WireRule.{seen_live}
 use Rattle.multiportgraph.specs.CountLaws.{visible_ports_lem}
 use Rattle.multiportgraph.specs.declared.multiportgraph.MultiPortGraph.{MultiPortGraph}
@@ -34,11 +35,6 @@ same_length a b r s f g =
     let p = partners (λ x y. x ≡ y) (λ x z y i j. i ∙ sym j) a b r (λ x i. (x, f x i, refl)) in
     let q = partners (λ x y. x ≡ y) (λ x z y i j. i ∙ sym j) b a s (λ x i. (x, g x i, refl)) in
     omega arith
-
--- a list rises: no number stands in it twice
-pub rising_apart : (l : List ℕ) → Rising ◌<◌ l → Rising Apart l
-rising_apart [] r = tt
-rising_apart (x ∷ l) r = ((λ y i e. let h = r.0 y i in omega arith), rising_apart l r.1)
 
 -- the number of a port of a block
 abbrev pub PortOfBlock : MultiPortGraph → Model → ℕ → Type 0
@@ -78,7 +74,7 @@ module _ {m : MultiPortGraph} {M : Model} (f : Fine m M) where
   unfolding all_ports
   ascending_lists =
       record {
-        once = rising_apart (filter (shown m) (range 0 port_slots)) (rising_filter ◌<◌ (shown m) (range 0 port_slots) (range_rises 0 port_slots));
+        once = numbers_apart (filter (shown m) (range 0 port_slots)) (rising_filter ◌<◌ (shown m) (range 0 port_slots) (range_rises 0 port_slots));
         only = λ p i. go p (seen m p) refl (member_filter (shown m) p (range 0 port_slots) i).1;
         all = λ p x.
             filter_member (shown m) p (range 0 port_slots) (range_member p 0 port_slots (omega arith) (in_table p x))
@@ -99,11 +95,10 @@ module _ {m : MultiPortGraph} {M : Model} (f : Fine m M) where
   unfolding blocks is_block
   blocks_list =
       record {
-        once = rising_apart (filter (is_block m) (range 0 node_slots)) (rising_filter ◌<◌ (is_block m) (range 0 node_slots) (range_rises 0 node_slots));
+        once = numbers_apart (filter (is_block m) (range 0 node_slots)) (rising_filter ◌<◌ (is_block m) (range 0 node_slots) (range_rises 0 node_slots));
         only = λ n i. go n (is_hidden m n) (M.node n) refl refl (member_filter (is_block m) n (range 0 node_slots) i).1;
         all = λ n k b.
-            let u = f.good.node_used n k b.1 in
-            let v = f.good.nodes_fit in
+            let u = node_below f.good n k b.1 in
             let t = ap is_some (meta_of_node f.good f.holds n k b.1) in
             filter_member (is_block m) n (range 0 node_slots) (range_member n 0 node_slots (omega arith) (omega arith)) (rw b.0 t);
       }

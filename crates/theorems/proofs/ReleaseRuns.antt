@@ -3,7 +3,6 @@ use Rattle.std.specs.Prelude.{◌≡◌, refl, Bool, true, false, cond, List, []
 use Rattle.std.proofs.Common.{sym, ◌∙◌, ap, subst, inl, inr, ⊎_elim, eq-eqb}
 use Rattle.std.proofs.lemmas.Bool.{eqb-false}
 use Rattle.port_tables.specs.Limits.{present, node_ports}
-use Rattle.port_tables.specs.Lists.{filter}
 use Rattle.port_tables.specs.Entries.{same_side}
 use Rattle.portgraph.specs.Lookups.{meta_at}
 use Rattle.portgraph.specs.Calls.{add_node, link_ports, unlink_port}
@@ -446,15 +445,13 @@ Through s l t = (answers_from s (calls_of l) ≡ l) × (run_from s (calls_of l) 
 
 -- the first answer of a list gave 18, or it did not
 left_out : (a : Answered) (l : List Answered) → number_of a.call a.answer ≡ 18 → without18 (a ∷ l) ≡ without18 l
-unfolding filter
 left_out a l e = rw (eq-eqb (number_of a.call a.answer) 18 e)
 
 left_in : (a : Answered) (l : List Answered) → eqb (number_of a.call a.answer) 18 ≡ false → without18 (a ∷ l) ≡ a ∷ without18 l
-unfolding filter
 left_in a l e = rw e
 
 pub two_through_one : (s : State) (l : List Call) → Through (state_for One s) (without18 (answers_from s l)) (run_from s l)
-unfolding answers_from run_from_under filter
+unfolding answers_from run_from_under
 two_through_one s [] = (refl, refl)
 two_through_one s (c ∷ l) = let t = two_through_one (next s c) l in ⊎_elim (gave t) (passes t) (step_either s.graph c)
   where

@@ -42,7 +42,7 @@ use Rattle.multiportgraph.specs.declared.multiportgraph.MultiPortGraph.{MultiPor
 use Rattle.multi_tables.specs.declared.answers.Refusal.{Refusal}
 use Rattle.multi_tables.specs.declared.answers.Refusal.TheVariants.{UnknownNode, HiddenNode, UnknownPort, HiddenPort}
 use Rattle.theorems.specs.Conditions.{OfBlock, PortIs, no_port, hidden_port, block_port, RemoveRefused, remove_unknown, remove_hidden, CutRefused, cut_dead, cut_hidden}
-use Rattle.theorems.specs.PortCases.{port_is}
+use Rattle.theorems.specs.PortCases.{port_is, seen_block_port}
 
 -- Conditions.
 
@@ -193,9 +193,6 @@ module _ {m : MultiPortGraph} {M : Model} (f : Fine m M) where
 
   -- At a port.
 
-  block_port_seen : (p : ℕ) (x : model.InnerPlace) → OfBlock m M p x → seen m p ≡ visible x.node x.side
-  block_port_seen p x b = ap (seen m) (sym b.1) ∙ ends.seen_block f x b.0
-
   -- what answers by the cases of a port number refuses with 7 and 8 alone
   module _ {A : Type 0} (no : Refusal → A) (one : (r s : Refusal) → no r ≡ no s → r ≡ s) (p : ℕ) (answer : Port → A) (on-dead : answer dead ≡ no (UnknownPort (port# p)))
       (on-hidden : answer hidden ≡ no (HiddenPort (port# p))) (given : (n : ℕ) (d : Direction) (r : Refusal) → answer (visible n d) ≡ no r → ⊥) where
@@ -209,7 +206,7 @@ module _ {m : MultiPortGraph} {M : Model} (f : Fine m M) where
         go : PortIs m M p → answer (seen m p) ≡ no r → PortRefused m M p r
         go (no_port d) e = subst (PortRefused m M p) (one _ r (sym (port_refuses _ (cut_dead d)) ∙ e)) (cut_dead d)
         go (hidden_port h) e = subst (PortRefused m M p) (one _ r (sym (port_refuses _ (cut_hidden h)) ∙ e)) (cut_hidden h)
-        go (block_port x b) e = absurd (given x.node x.side r (ap answer (sym (block_port_seen p x b)) ∙ e))
+        go (block_port x b) e = absurd (given x.node x.side r (ap answer (sym (seen_block_port f p x b)) ∙ e))
 
   pub start_at_port_refused : (p : ℕ) (r : Refusal) → (start_at_port m p ≡ refused r) ↔ PortRefused m M p r
   unfolding start_at_port
@@ -217,7 +214,7 @@ module _ {m : MultiPortGraph} {M : Model} (f : Fine m M) where
 
   pub start_at_port_starts : (p : ℕ) → (start_at_port m p ≡ started) ↔ ((x : model.InnerPlace) × OfBlock m M p x)
   unfolding start_at_port
-  start_at_port_starts p = (go (port_is f p), (λ x. ap (start_seen p) (block_port_seen p x.0 x.1)))
+  start_at_port_starts p = (go (port_is f p), (λ x. ap (start_seen p) (seen_block_port f p x.0 x.1)))
     where
       go : PortIs m M p → start_at_port m p ≡ started → (x : model.InnerPlace) × OfBlock m M p x
       go (no_port d) e = let z = (start_at_port_refused p _).1 (cut_dead d) in absurd (zero_is_not_one (cc))
@@ -258,7 +255,7 @@ module _ {m : MultiPortGraph} {M : Model} (f : Fine m M) where
 
   pub direction_found : (p : ℕ) (x : model.InnerPlace) → OfBlock m M p x → direction_of m p ≡ Ok x.side
   unfolding direction_of
-  direction_found p x b = ap (direction_seen p) (block_port_seen p x b)
+  direction_found p x b = ap (direction_seen p) (seen_block_port f p x b)
 
   pub node_refused : (p : ℕ) (r : Refusal) → (node_of m p ≡ Err r) ↔ PortRefused m M p r
   unfolding node_of
@@ -266,7 +263,7 @@ module _ {m : MultiPortGraph} {M : Model} (f : Fine m M) where
 
   pub node_found : (p : ℕ) (x : model.InnerPlace) → OfBlock m M p x → node_of m p ≡ Ok (node# x.node)
   unfolding node_of
-  node_found p x b = ap (node_seen p) (block_port_seen p x b)
+  node_found p x b = ap (node_seen p) (seen_block_port f p x b)
 
   pub offset_refused : (p : ℕ) (r : Refusal) → (offset_of m p ≡ Err r) ↔ PortRefused m M p r
   unfolding offset_of
@@ -275,7 +272,7 @@ module _ {m : MultiPortGraph} {M : Model} (f : Fine m M) where
   pub offset_found : (p : ℕ) (x : model.InnerPlace) → OfBlock m M p x → offset_of m p ≡ Ok (offset_of_place x)
   unfolding offset_of
   offset_found p x b =
-      ap (offset_seen m p) (block_port_seen p x b)
+      ap (offset_seen m p) (seen_block_port f p x b)
       ∙ ap (λ (i : ℕ). Ok (record { direction = x.side; index = i })) (ap (position_of m.graph) (sym b.1) ∙ ends.position_of_lem f x b.0.0)
 
   pub port_fan_out_refused : (p : ℕ) (r : Refusal) → (port_fan_out m p ≡ Err r) ↔ PortRefused m M p r
@@ -284,7 +281,7 @@ module _ {m : MultiPortGraph} {M : Model} (f : Fine m M) where
 
   pub contains_port_is : (p : ℕ) → (contains_port_of m p ≡ true) ↔ ((x : model.InnerPlace) × OfBlock m M p x)
   unfolding contains_port_of
-  contains_port_is p = (go (seen m p) refl, (λ x. ap is_seen (block_port_seen p x.0 x.1)))
+  contains_port_is p = (go (seen m p) refl, (λ x. ap is_seen (seen_block_port f p x.0 x.1)))
     where
       go : (v : Port) → seen m p ≡ v → is_seen (seen m p) ≡ true → (x : model.InnerPlace) × OfBlock m M p x
       go dead e t = let z = ap is_seen e in absurd (zero_is_not_one (cc))
@@ -369,7 +366,7 @@ module _ {m : MultiPortGraph} {M : Model} (f : Fine m M) where
   -- the calls answer so
   pub port_fan_out_found : (p : ℕ) (x : model.InnerPlace) → OfBlock m M p x → port_fan_out m p ≡ Ok (length (port_links m p))
   unfolding port_fan_out fan_out
-  port_fan_out_found p x b = ap (fan_out_seen m p) (block_port_seen f p x b)
+  port_fan_out_found p x b = ap (fan_out_seen m p) (seen_block_port f p x b)
 
   pub node_fan_out_found : (n : ℕ) (k : NodeMeta) → BlockIs m M n k → node_fan_out m n ≡ Ok (length (side_links m Outgoing n))
   unfolding node_fan_out

@@ -18,7 +18,7 @@ use Rattle.multiportgraph.specs.Wires.{wires_walked}
 use Rattle.theorems.specs.Book.{Call, Block, Book, spot_of, add_wire}
 use Rattle.theorems.specs.History.{State, step, entered, next, run}
 use Rattle.multiportgraph.specs.WellFormed.{Fine, Seen, lift, outer, IsEnd, WireIn, SameBlocks, Wiring, none}
-use Rattle.theorems.specs.BookLaws.{so_not_false, same_count}
+use Rattle.theorems.specs.BookLaws.{same_count}
 use Rattle.multiportgraph.specs.HiddenStays.{true_not_false}
 use Rattle.multiportgraph.specs.Ends.{seen_block, ends_join_ends}
 use Rattle.multiportgraph.specs.WalkRule.{walk_ends_lem, walked_is_wires, walked_once, same_wires_same_list}
@@ -37,6 +37,7 @@ use Rattle.theorems.specs.ListedLinks.{end_named_lem}
 use Rattle.port_tables.specs.declared.index.PortIndex.{PortIndex}
 use Rattle.portgraph.specs.declared.portgraph.NoSuchPort.{NoSuchPort}
 use Rattle.multi_tables.specs.declared.answers.PortPlace.{PortPlace}
+use Rattle.std.proofs.lemmas.Bool.{false_from_ne_true}
 
 -- Graph and book that go together obey the wire rule.
 rule_of : (s : State) (M : Model) → Rel s.graph M s.book → WireRule s
@@ -165,7 +166,7 @@ module _ {m : MultiPortGraph} {M : Model} {m' : MultiPortGraph} {M' : Model} {w 
 
       back : (M'' : Model) → Wiring m' M' (cut_sub m' (slot_of M'.node x) o).graph M'' (end_named o x) [] → (v : Wire) →
           WireIn m M v → WireIn (cut_sub m' (slot_of M'.node x) o).graph M'' v
-      back M'' c v h = c.kept v (wires.kept v h refl) (so_not_false _ (λ t. free v h (touches_has_end x o v t)))
+      back M'' c v h = c.kept v (wires.kept v h refl) (false_from_ne_true _ (λ t. free v h (touches_has_end x o v t)))
 
 ends_restore : {m : MultiPortGraph} {M : Model} {m' : MultiPortGraph} {a o b r : ℕ} {s t : SubportIndex} → Fine m M → OneMore m M m' a o b r s t →
     Restored m m' s × Restored m m' t

@@ -3,7 +3,8 @@
 --
 -- A history is any list of calls from the empty graph of a release, refused ones included. What stands here holds under both releases.
 use Rattle.std.specs.Prelude.{◌≡◌, Bool, true, false, List, [], ◌∷◌, ◌++◌, map, ◌↔◌, ◌⊎◌, ℕ, suc, ◌<◌, ◌*◌, length, drop, Some, None, Ok}
-use Rattle.port_tables.specs.Lists.{filter, Member}
+use Rattle.port_tables.specs.Lists.{Member}
+use Rattle.std.specs.List.{filter}
 use Rattle.portgraph.specs.Lookups.{num_ports, meta_at}
 use Rattle.port_tables.specs.Entries.{new_count}
 use Rattle.portgraph.specs.Model.{Model}

@@ -6,7 +6,8 @@ use Rattle.std.proofs.Math.Bool.{false, cond}
 use mathlib.Core.List.{List, [], ◌++◌, flat_map}
 use Rattle.std.proofs.Math.Dec.{eqb}
 use Rattle.port_tables.specs.Limits.{node_slots}
-use Rattle.port_tables.specs.Lists.{filter, range, Member, on_first, on_last}
+use Rattle.port_tables.specs.Lists.{range, Member, on_first, on_last}
+use Rattle.std.specs.List.{filter}
 use Rattle.port_tables.specs.Entries.{same_side, ports_from}
 use Rattle.portgraph.specs.Model as model
 use Rattle.portgraph.specs.Model.{Model, slot_of}
@@ -21,7 +22,7 @@ use Rattle.multiportgraph.specs.Reading.{owner_of, seen, port_place}
 use Rattle.multi_tables.specs.Forms.{Port, dead, hidden, visible, subport#}
 use Rattle.port_tables.specs.Places.{Place, Wire, spot, at_spot, end_on, far_from}
 use Rattle.multiportgraph.specs.WellFormed.{inner#, Fine, Seen, lift, WireIn, BlockIs, SameBlocks}
-use Rattle.multiportgraph.specs.Ends.{block_seen, seen_block, seen_still, ends_join_ends, outer_seen, place_of_sub, lift_place, owner_of_lem}
+use Rattle.multiportgraph.specs.Ends.{block_seen, seen_still, ends_join_ends, outer_seen, place_of_sub, lift_place, owner_of_lem}
 use Rattle.multiportgraph.specs.Wires.{is_block, blocks, side_links, all_wires, is_beyond, wires_beyond, wires_seen, step_wires, first_item, place_of}
 use Rattle.multiportgraph.specs.Walks.{between, is_seen, held_seen, both_seen, by_sides, port_links, port_links_seen, links_left, step_front, step_back, node_links, not_skipped, link_beyond, links_item, step_links, connections, connections_item, step_connections}
 use Rattle.port_tables.specs.Listing.{rising_by_items, filter_same, member_filter}
@@ -40,6 +41,7 @@ use Rattle.theorems.proofs.PortListing.{blocks_list}
 use Rattle.theorems.proofs.ListingWires.{side_link}
 use Rattle.theorems.specs.WalkStepLaws.{link_offset, port_links_rise}
 use Rattle.theorems.specs.TidyClaims.{WalksKept}
+use Rattle.multiportgraph.specs.SpaceLaws.{still_seen}
 
 -- a place is at its own spot
 at_own : (x : model.InnerPlace) (o : ℕ) (v : Place) → v ≡ lift x o → at_spot (spot x.node x.side x.pos) v ≡ true
@@ -97,11 +99,6 @@ module _ {m m' : MultiPortGraph} {M M' : Model} (f : Fine m M) (f' : Fine m' M')
           λ i. record { from = subport# (port i) (offset i); to = to_same i; place = stood i }
 
 -- a block's port is seen as one in the other graph
-still_seen : {m m' : MultiPortGraph} {M M' : Model} → Fine m M → Fine m' M' → SameBlocks m M m' M' → (p n : ℕ) (d : Direction) → seen m p ≡ visible n d → seen m' p ≡ visible n d
-still_seen {m} {m'} f f' same p n d e =
-    let b = block_seen f p n d e in
-    let k = seen_still f f' same b.place b.is_seen in
-    ap (seen m') (sym (k.1 ∙ b.slot)) ∙ (seen_block f' b.place k.0 ∙ (λ i. visible (b.node i) (b.side i)))
 
 block_at : {m : MultiPortGraph} {M : Model} → Fine m M → (n : ℕ) → is_block m n ≡ true → (k : NodeMeta) × BlockIs m M n k
 block_at {m} f n b = let k = block_has_meta m n b in (k.0, (block_not_hidden m n b, node_of_meta f.good f.holds n k.0 k.1))

@@ -4,8 +4,9 @@ use Rattle.std.specs.Prelude.{◌≡◌, Bool, true, false, not, ◌⊎◌, ℕ,
 use Rattle.std.proofs.Math.Path.{refl, ap}
 use Rattle.std.proofs.Common.{sym, ◌∙◌, subst, inl, inr, ⊎_elim, arith, take_at, drop_at, eqb-true, ne_eqb}
 use mathlib.Core.List.{List, [], ◌∷◌, ◌++◌}
-use Rattle.std.proofs.lemmas.Bool.{eqb-false}
-use Rattle.port_tables.specs.Lists.{range, filter, Member, Once, Rising}
+use Rattle.std.proofs.lemmas.Bool.{eqb-false, false_from_ne_true, or_right}
+use Rattle.port_tables.specs.Lists.{range, Member, Once, Rising}
+use Rattle.std.specs.List.{filter}
 use Rattle.port_tables.specs.Entries.{ports_on, meta_of}
 use Rattle.portgraph.specs.Model as model
 use Rattle.portgraph.specs.Model.{Model, Slots, gone, live, Valid, slot_of, first_of, side_start}
@@ -17,8 +18,8 @@ use Rattle.port_tables.specs.declared.node_entry.NodeMeta.{NodeMeta}
 use Rattle.theorems.specs.Book.{empty_book, read_by, Block, Book, with_wires, spot_among, spot_of, add_wire, not_block, book_add, book_remove, book_set, book_link, book_link_sub, book_cut}
 use Rattle.port_tables.specs.Places.{without, next_offset, Place, Wire, Spot, spot, at_end, touches, wire_of_sides}
 use Rattle.multiportgraph.specs.WellFormed.{inner#, Fine, BlockIs, Seen, lift, WireIn, SameBlocks, Wiring, none, SameWires}
-use Rattle.theorems.specs.BookLaws.{so_not_false, not_so_true, or_true, or_right, left_once, wire_stays, stayed_wire, length_range, among_run, beside_run, any_touches_lem, none_touches, next_offset_lem}
-use Rattle.port_tables.specs.Listing.{member_filter, filter_member, rising_filter}
+use Rattle.theorems.specs.BookLaws.{not_so_true, or_true, left_once, wire_stays, stayed_wire, among_run, beside_run, any_touches_lem, none_touches, next_offset_lem}
+use Rattle.port_tables.specs.Listing.{member_filter, filter_member, rising_filter, length_range}
 use Rattle.multiportgraph.specs.HiddenStays.{true_not_false}
 use Rattle.multiportgraph.specs.Ends.{out_side, into_side, ports_walked_lem}
 use Rattle.multiportgraph.specs.Reading.{is_split, as_read}
@@ -248,7 +249,7 @@ offset_of_lem {m} {M} {B} r x o lower free =
     next_offset_lem x.node x.side x.pos o B.wires
     (λ w i. let h = r.wires.booked w i in (out_side r.fine w h, into_side r.fine w h))
     (λ j h. let e = lower j h in any_touches_lem _ e.0 B.wires (r.wires.walks e.0 e.1) (has_end_touches x j e.0 e.2))
-    (none_touches _ B.wires (λ w i. so_not_false _ (λ t. free w (r.wires.booked w i) (touches_has_end x o w t))))
+    (none_touches _ B.wires (λ w i. false_from_ne_true _ (λ t. free w (r.wires.booked w i) (touches_has_end x o w t))))
 
 -- The calls, from what they did to blocks and wires.
 

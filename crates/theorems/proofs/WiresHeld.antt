@@ -1,7 +1,6 @@
 -- The cursor over all wires that holds a port and offset, on whatever the graph is by then: a step gives the first item of the present
 -- listing beyond them, counted from that port's present block. Either the item lies in that block, at a later port or at a later offset of
 -- that port, or in a later block; where there is none the step ends the walk. Also where the port held is an incoming one.
-use Rattle.theorems.specs.Pairs.{some_pair}
 use Rattle.std.specs.Prelude.{◌≡◌, Bool, ◌⊎◌, ◌↔◌, ltb, length, Option, Some, None, Result, Ok, Err}
 use Rattle.std.proofs.Math.Path.{refl, sym, ap}
 use Rattle.std.proofs.Common.{◌∙◌, subst, arith}
@@ -11,8 +10,8 @@ use Rattle.std.proofs.Math.Logic.{inl, inr, ⊎_elim}
 use Prim.Native.Nat.{ℕ, zero, suc, ◌-◌, ◌<◌}
 use Rattle.std.proofs.Math.Dec.{eqb}
 use borrow.Author.Tests.{ltb-true, eqb-true, lt-ltb, le-ltb, eq-eqb, ne_eqb}
-use Rattle.port_tables.specs.Limits.{node_slots}
-use Rattle.port_tables.specs.Lists.{range, filter, Member, Rising}
+use Rattle.port_tables.specs.Lists.{range, Member, Rising}
+use Rattle.std.specs.List.{filter}
 use Rattle.portgraph.specs.Lookups.{num_ports}
 use Rattle.portgraph.specs.Model as model
 use Rattle.portgraph.specs.Model.{Model, live}
@@ -25,11 +24,10 @@ use Rattle.multiportgraph.specs.Reading.{seen, owner_of, is_split, subports, por
 use Rattle.multi_tables.specs.Forms.{Port, dead, hidden, visible, subport#, wire_to}
 use Rattle.multiportgraph.specs.WellFormed.{inner#, Fine, Seen}
 use Rattle.multiportgraph.specs.Ends.{owner_of_lem, port_of_lem, count_of_lem, seen_block, block_seen}
-use Rattle.multiportgraph.specs.Wires.{is_block, blocks, ports_of_side, subports_of_port, subports_of_side, wire_of, side_links, all_wires, is_beyond, first_item, wires_beyond, wires_seen, step_wires, walk_by, walked_on, walk_wires}
+use Rattle.multiportgraph.specs.Wires.{blocks, ports_of_side, subports_of_port, subports_of_side, wire_of, side_links, all_wires, is_beyond, first_item, wires_beyond, wires_seen, step_wires, walk_by, walked_on, walk_wires}
 use Rattle.multiportgraph.specs.Walks.{is_seen}
-use Rattle.port_tables.specs.Listing.{member_filter, member_flat_map, flat_map_member, member_map, member_range, filter_flat_map, flat_map_beyond, filter_all, rising_filter, rising_map, rising_flat_map, range_rises}
+use Rattle.port_tables.specs.Listing.{member_filter, member_flat_map, flat_map_member, member_range, filter_flat_map, flat_map_beyond, filter_all, rising_map, rising_flat_map, range_rises}
 use Rattle.theorems.proofs.PortListing.{blocks_list, side_listed}
-use Rattle.theorems.specs.WalkStepLaws.{less}
 use Rattle.theorems.specs.Book.{Call}
 use Rattle.theorems.specs.History.{run}
 use Rattle.theorems.proofs.CallLaws.{run_kept}
@@ -40,6 +38,10 @@ use Rattle.multi_tables.specs.declared.answers.SubportLink.{SubportLink}
 use Rattle.multiportgraph.specs.declared.iter.Wires.{Wires}
 use Rattle.multi_tables.specs.declared.answers.Refusal.{Refusal}
 use Rattle.multi_tables.specs.declared.answers.PortPlace.{PortPlace}
+use Rattle.portgraph.specs.WalkLaws.{one_less}
+use Rattle.multiportgraph.specs.ScanLaws.{subport_stands}
+use Rattle.multiportgraph.specs.WalkRule.{blocks_rise}
+use Rattle.std.proofs.lemmas.Option.{some_pair_parts}
 
 module _ (m : MultiPortGraph) (n p o : ℕ) (w : SubportLink) where
   lies_so : lies_beyond m n p o w ≡ true → Beyond m n p o w
@@ -66,22 +68,13 @@ from_here s (Ok (Some (t, x))) w (inr i) = absurd i
 from_here s (Ok None) w i = absurd i
 from_here s (Err r) w i = absurd i
 
-port_of_subport : (m : MultiPortGraph) (d : Direction) (p : ℕ) (s : SubportIndex) → Member s (subports_of_port m d p) → s.port.0 ≡ p
-unfolding subports_of_port
-port_of_subport m d p s i = go (is_split m p) i
-  where
-    go : (b : Bool) → Member s (cond b (map (subport# p) (range 0 (subports m p d))) (subport# p 0 ∷ [])) → s.port.0 ≡ p
-    go true j = let r = member_map (subport# p) s (range 0 (subports m p d)) j in ap (λ (t : SubportIndex). t.port.0) r.2
-    go false (inl e) = ap (λ (t : SubportIndex). t.port.0) e
-    go false (inr j) = absurd j
-
 item_port : (m : MultiPortGraph) (d : Direction) (n : ℕ) (w : SubportLink) → Member w (side_links m d n) → Member w.from.port.0 (ports_of_side m d n)
 unfolding side_links subports_of_side wire_of
 item_port m d n w i =
     let a = member_flat_map (wire_of m d) w (subports_of_side m n d) i in
     let b = member_flat_map (subports_of_port m d) a.0 (ports_of_side m d n) a.1 in
     let e : w.from ≡ a.0 = from_here a.0 (link_of_end m a.0.port.0 (end_at m a.0.port.0 d a.0.subport_offset)) w a.2 in
-    let q : w.from.port.0 ≡ b.0 = ap (λ (t : SubportIndex). t.port.0) e ∙ port_of_subport m d b.0 a.0 b.2 in
+    let q : w.from.port.0 ≡ b.0 = ap (λ (t : SubportIndex). t.port.0) e ∙ subport_stands m d b.0 a.0 b.2 in
     subst (λ (p : ℕ). Member p (ports_of_side m d n)) (sym q) b.1
 
 module _ {m : MultiPortGraph} {M : Model} (f : Fine m M) where
@@ -90,17 +83,13 @@ module _ {m : MultiPortGraph} {M : Model} (f : Fine m M) where
       let r = side_listed f n Outgoing w.from.port.0 (item_port m Outgoing n w i) in
       ap (owner_of m.graph) (sym r.2) ∙ owner_of_lem f (inner# n Outgoing r.0) r.1
 
-  blocks_rise : Rising ◌<◌ (blocks m)
-  unfolding blocks
-  blocks_rise = rising_filter ◌<◌ (is_block m) (range 0 node_slots) (range_rises 0 node_slots)
-
   -- what is left beyond a port of a block is what lies beyond it in the listing
   left_is : (n : ℕ) → Member n (blocks m) → (p o : ℕ) → wires_beyond m n p o ≡ filter (lies_beyond m n p o) (all_wires m)
   unfolding wires_beyond all_wires lies_beyond
   left_is n i p o =
       sym
       (filter_flat_map (lies_beyond m n p o) (side_links m Outgoing) (blocks m)
-      ∙ flat_map_beyond (side_links m Outgoing) n (lies_beyond m n p o) (is_beyond p o) (blocks m) blocks_rise i
+      ∙ flat_map_beyond (side_links m Outgoing) n (lies_beyond m n p o) (is_beyond p o) (blocks m) (blocks_rise m) i
       (λ k j l v h.
       let e = item_block k v h in
       rw (ne_eqb (block_of_item m v) n (λ q. omega arith), le-ltb n (block_of_item m v) (omega arith)))
@@ -124,7 +113,7 @@ module _ {m : MultiPortGraph} {M : Model} (f : Fine m M) where
   unfolding step_wires
   step_held c p n d h e =
       ap (λ (k : ℕ). cond (eqb k 0) (first_item (all_wires m)) (wires_seen m (k - 1) c.held.offset (seen m (k - 1)))) h
-      ∙ (rw (ne_eqb (suc p) 0 (λ z. omega arith), less p) (ap (wires_seen m p c.held.offset) e)
+      ∙ (rw (ne_eqb (suc p) 0 (λ z. omega arith), one_less p) (ap (wires_seen m p c.held.offset) e)
       ∙ ap first_item (left_is n (block_listed p n d e) p c.held.offset))
 
 -- The first item that passes a test.
@@ -133,13 +122,12 @@ abbrev Passed : (SubportLink → Bool) → List SubportLink → SubportLink → 
 Passed t l w c = (before : List SubportLink) × (after : List SubportLink) × (l ≡ before ++ (w ∷ after)) × (t w ≡ true) × ((v : SubportLink) → Member v before → t v ≡ false) × (c ≡ holding w)
 
 first_passed : (t : SubportLink → Bool) (l : List SubportLink) (w : SubportLink) (c : Wires) → first_item (filter t l) ≡ Some (w, c) → Passed t l w c
-unfolding filter
 first_passed t [] w c e = absurd (zero_is_not_one (cc))
 first_passed t (x ∷ l) w c e = go (t x) refl (first_passed t l w c) e
   where
     go : (b : Bool) → t x ≡ b → (first_item (filter t l) ≡ Some (w, c) → Passed t l w c) → first_item (cond b (x ∷ filter t l) (filter t l)) ≡ Some (w, c) → Passed t (x ∷ l) w c
     go true q r k =
-        let p = some_pair k in
+        let p = some_pair_parts _ _ _ _ k in
         let s : x ≡ w = p.0 in
         let d : holding x ≡ c = p.1 in
         ([], l, ap (λ (y : SubportLink). y ∷ l) s, sym (ap t s) ∙ q, (λ v i. absurd i), sym d ∙ ap holding s)
@@ -148,7 +136,6 @@ first_passed t (x ∷ l) w c e = go (t x) refl (first_passed t l w c) e
         (x ∷ s.0, s.1, ap (λ (y : List SubportLink). x ∷ y) s.2, s.3, (λ v i. ⊎_elim (λ z. ap t z ∙ q) (s.4 v) i), s.5)
 
 none_passed : (t : SubportLink → Bool) (l : List SubportLink) → first_item (filter t l) ≡ None → (v : SubportLink) → Member v l → t v ≡ false
-unfolding filter
 none_passed t [] e v i = absurd i
 none_passed t (x ∷ l) e v i = go (t x) refl (none_passed t l) e i
   where
@@ -178,10 +165,10 @@ module _ {m : MultiPortGraph} {M : Model} (f : Fine m M) (c : Wires) (p : ℕ) (
   unfolding step_wires
   item_seen (visible n s) e w d g = (n, s, e)
   item_seen dead e w d g =
-      let z : step_wires m c ≡ None = ap (λ (k : ℕ). cond (eqb k 0) (first_item (all_wires m)) (wires_seen m (k - 1) c.held.offset (seen m (k - 1)))) held ∙ rw (ne_eqb (suc p) 0 (λ z. omega arith), less p) (ap (wires_seen m p c.held.offset) e) in
+      let z : step_wires m c ≡ None = ap (λ (k : ℕ). cond (eqb k 0) (first_item (all_wires m)) (wires_seen m (k - 1) c.held.offset (seen m (k - 1)))) held ∙ rw (ne_eqb (suc p) 0 (λ z. omega arith), one_less p) (ap (wires_seen m p c.held.offset) e) in
       absurd (zero_is_not_one (cc))
   item_seen hidden e w d g =
-      let z : step_wires m c ≡ None = ap (λ (k : ℕ). cond (eqb k 0) (first_item (all_wires m)) (wires_seen m (k - 1) c.held.offset (seen m (k - 1)))) held ∙ rw (ne_eqb (suc p) 0 (λ z. omega arith), less p) (ap (wires_seen m p c.held.offset) e) in
+      let z : step_wires m c ≡ None = ap (λ (k : ℕ). cond (eqb k 0) (first_item (all_wires m)) (wires_seen m (k - 1) c.held.offset (seen m (k - 1)))) held ∙ rw (ne_eqb (suc p) 0 (λ z. omega arith), one_less p) (ap (wires_seen m p c.held.offset) e) in
       absurd (zero_is_not_one (cc))
 
   ends : (v : Port) → seen m p ≡ v → step_wires m c ≡ None → (is_seen (seen m p) ≡ false) ⊎ ((n : ℕ) × (s : Direction) × (seen m p ≡ visible n s) × ((w : SubportLink) → Member w (all_wires m) → Beyond m n p c.held.offset w → ⊥))
@@ -262,7 +249,6 @@ module _ (m : MultiPortGraph) where
 -- what is left after an item of an ascending list
 rest_after : (m : MultiPortGraph) (n p o : ℕ) (w : SubportLink) (r l : List SubportLink) → Rising (Ahead m) l → filter (lies_beyond m n p o) l ≡ w ∷ r →
     filter (lies_beyond m (block_of_item m w) w.from.port.0 w.from.subport_offset) l ≡ r
-unfolding filter
 rest_after m n p o w r [] rise e = absurd (zero_is_not_one (cc))
 rest_after m n p o w r (x ∷ l) rise e = go (lies_beyond m n p o x) refl (rest_after m n p o w r l rise.1) e
   where
@@ -310,8 +296,8 @@ module _ {m : MultiPortGraph} {M : Model} (f : Fine m M) where
   subports_rise n d =
       rising_flat_map ◌<◌ Below (subports_of_port m d) (ports_of_side m d n) (ports_rise n d) (λ p i. offsets_rise d p)
       (λ p q s t i j l h k.
-      let a = port_of_subport m d p s h in
-      let b = port_of_subport m d q t k in
+      let a = subport_stands m d p s h in
+      let b = subport_stands m d q t k in
       inl (omega arith))
 
   one_rises : (s : SubportIndex) (v : Result (Option (SubportIndex × PortPlace)) Refusal) → Rising (Ahead m) (wire_to s v)
@@ -338,7 +324,7 @@ module _ {m : MultiPortGraph} {M : Model} (f : Fine m M) where
   wires_rise : Rising (Ahead m) (all_wires m)
   unfolding all_wires
   wires_rise =
-      rising_flat_map ◌<◌ (Ahead m) (side_links m Outgoing) (blocks m) (blocks_rise f) (λ n i. side_rises n)
+      rising_flat_map ◌<◌ (Ahead m) (side_links m Outgoing) (blocks m) (blocks_rise m) (λ n i. side_rises n)
       (λ a c v w i j l h k.
       let x = item_block f a v h in
       let y = item_block f c w k in

@@ -265,7 +265,7 @@ tidy_lines =
 all_tables : (asked_all bench_lines ≡ expected_all bench_lines) × (asked_all resize_lines ≡ expected_all resize_lines) × (asked_all fan_out_lines ≡ expected_all fan_out_lines)
     × ((release : Release) → asked_under release (input_lines release) ≡ expected_all (input_lines release))
     × (asked_all tidy_lines ≡ expected_all tidy_lines)
-unfolding asked Rattle.port_tables.specs.Tables.at Rattle.port_tables.specs.Tables.put Rattle.port_tables.specs.Tables.fill Rattle.port_tables.specs.Tables.fill_range Rattle.port_tables.specs.Tables.head_at Rattle.port_tables.specs.Tables.put_head Rattle.port_tables.specs.Tables.own_block Rattle.port_tables.specs.Tables.link_both Rattle.port_tables.specs.Tables.cut_far Rattle.port_tables.specs.Tables.cut Rattle.port_tables.specs.Tables.cut_range Rattle.port_tables.specs.Tables.link_count Rattle.port_tables.specs.Tables.cut_count Rattle.port_tables.specs.Tables.relink Rattle.port_tables.specs.Tables.move_port Rattle.port_tables.specs.Tables.move_up Rattle.port_tables.specs.Tables.move_down Rattle.port_tables.specs.Tables.shift Rattle.port_tables.specs.Tables.transfer Rattle.port_tables.specs.Tables.chain_block Rattle.port_tables.specs.Tables.told_link Rattle.port_tables.specs.Tables.drop_events Rattle.port_tables.specs.Tables.move_up_events Rattle.port_tables.specs.Tables.move_down_events Rattle.port_tables.specs.Tables.shift_events Rattle.port_tables.specs.Entries.port_entry Rattle.port_tables.specs.Entries.set_prev Rattle.portgraph.specs.Calls.new_graph Rattle.portgraph.specs.Calls.find_slot_under Rattle.portgraph.specs.Calls.find_block_under Rattle.portgraph.specs.Calls.rest_of Rattle.portgraph.specs.Calls.grown Rattle.portgraph.specs.Calls.slot_after Rattle.portgraph.specs.Calls.place_node Rattle.portgraph.specs.Calls.add_node_under Rattle.portgraph.specs.Calls.free_node Rattle.portgraph.specs.Calls.remove_node Rattle.portgraph.specs.Calls.link_ports Rattle.portgraph.specs.Calls.unlink_port Rattle.port_tables.specs.ResizeLinks.doubled Rattle.port_tables.specs.ResizeLinks.round_up Rattle.port_tables.specs.ResizeLinks.same_counts Rattle.port_tables.specs.ResizeLinks.fits_inside Rattle.portgraph.specs.Resize.plan_of_under Rattle.port_tables.specs.ResizeLinks.drop_incoming Rattle.port_tables.specs.ResizeLinks.drop_links Rattle.port_tables.specs.ResizeLinks.drop_count Rattle.port_tables.specs.ResizeLinks.drop_told Rattle.port_tables.specs.ResizeLinks.inside_links Rattle.portgraph.specs.Resize.resize_inside Rattle.portgraph.specs.Resize.inside_told Rattle.port_tables.specs.ResizeLinks.anew_links Rattle.portgraph.specs.Resize.resize_anew Rattle.portgraph.specs.Resize.anew_told Rattle.portgraph.specs.Resize.set_num_ports_under Rattle.portgraph.specs.Resize.moves_after_under Rattle.portgraph.specs.Meaning.upd Rattle.portgraph.specs.Meaning.same_place Rattle.portgraph.specs.Meaning.drop_join Rattle.portgraph.specs.Meaning.link_join Rattle.portgraph.specs.Meaning.hand_over Rattle.multiportgraph.specs.Reading.far_port Rattle.multiportgraph.specs.Reading.has_link Rattle.multiportgraph.specs.Reading.owner_of Rattle.multiportgraph.specs.Reading.port_of Rattle.multiportgraph.specs.Reading.position_of Rattle.multiportgraph.specs.Reading.is_hidden Rattle.multiportgraph.specs.Reading.is_split Rattle.multiportgraph.specs.Reading.seen Rattle.multiportgraph.specs.Reading.copy_node Rattle.multiportgraph.specs.Reading.subports Rattle.multiportgraph.specs.Reading.subport_at Rattle.multiportgraph.specs.Reading.end_at Rattle.multiportgraph.specs.Reading.as_read Rattle.multiportgraph.specs.Reading.copy_side Rattle.multiportgraph.specs.Reading.main_port Rattle.multiportgraph.specs.Reading.subport_of Rattle.multiportgraph.specs.Graph.empty_graph Rattle.multiportgraph.specs.Calls.add_block_under Rattle.multiportgraph.specs.HiddenNodes.remove_copy Rattle.multiportgraph.specs.HiddenNodes.unsplit Rattle.multiportgraph.specs.HiddenNodes.unsplit_range Rattle.multiportgraph.specs.Calls.drop_block Rattle.multiportgraph.specs.Calls.remove_block Rattle.multi_tables.specs.Forms.lay_range Rattle.multi_tables.specs.Forms.lay_marks Rattle.multiportgraph.specs.HiddenNodes.recounted Rattle.multiportgraph.specs.HiddenNodes.copies_in Rattle.multiportgraph.specs.HiddenNodes.copies_dropped Rattle.multiportgraph.specs.HiddenNodes.remove_lone Rattle.multiportgraph.specs.HiddenNodes.remove_all Rattle.multiportgraph.specs.Calls.set_counts_under Rattle.multiportgraph.specs.Calls.moves_told_under Rattle.multiportgraph.specs.HiddenNodes.split_graph Rattle.multiportgraph.specs.HiddenNodes.split_port Rattle.multiportgraph.specs.HiddenNodes.split_under Rattle.multiportgraph.specs.HiddenNodes.lowest_free Rattle.multiportgraph.specs.HiddenNodes.grow_under Rattle.multiportgraph.specs.HiddenNodes.reuse_under Rattle.multiportgraph.specs.HiddenNodes.prepare_under Rattle.multiportgraph.specs.Calls.link_pair_if Rattle.multiportgraph.specs.Calls.link_clean_if Rattle.multiportgraph.specs.Calls.link_sub_if Rattle.multiportgraph.specs.Refusals.wired_input Rattle.multiportgraph.specs.Refusals.input_taken Rattle.multiportgraph.specs.Calls.cut_port Rattle.multiportgraph.specs.Calls.cut_sub Rattle.multiportgraph.specs.Tidy.linked_up_to Rattle.multiportgraph.specs.Tidy.subports_left Rattle.multiportgraph.specs.Tidy.resized_within Rattle.multiportgraph.specs.Tidy.drop_subports Rattle.multiportgraph.specs.Tidy.link_directly Rattle.multiportgraph.specs.Tidy.tidied Rattle.multiportgraph.specs.Calls.tidy_port Rattle.multiportgraph.specs.Calls.subport_link Rattle.multiportgraph.specs.Calls.visible_nodes Rattle.multiportgraph.specs.Calls.visible_ports Rattle.multiportgraph.specs.Calls.visible_links Rattle.port_tables.specs.Lists.range mathlib.Core.List.flat_map Rattle.port_tables.specs.Lists.filter Rattle.multiportgraph.specs.Wires.is_block Rattle.multiportgraph.specs.Wires.blocks Rattle.multiportgraph.specs.Wires.ports_of_side Rattle.multiportgraph.specs.Wires.subports_of_port Rattle.multiportgraph.specs.Wires.subports_of_side Rattle.multiportgraph.specs.Wires.wire_of Rattle.multiportgraph.specs.Wires.side_links Rattle.multiportgraph.specs.Wires.all_wires Rattle.multiportgraph.specs.Wires.is_beyond Rattle.multiportgraph.specs.Wires.wires_beyond Rattle.multiportgraph.specs.Wires.step_wires Rattle.multiportgraph.specs.Wires.walk_wires Rattle.multiportgraph.specs.Reading.place_of Rattle.multiportgraph.specs.Wires.walked Rattle.multiportgraph.specs.Wires.wires_walked Rattle.multiportgraph.specs.Lookups.port_fan_out Rattle.multiportgraph.specs.Lookups.node_fan_out Rattle.multiportgraph.specs.Walks.port_links Rattle.multiportgraph.specs.Walks.fan_out Rattle.multi_tables.specs.Forms.sum_of Rattle.multiportgraph.specs.Walks.block_fan_out Rattle.multiportgraph.specs.Walks.start_at_node Rattle.multiportgraph.specs.Walks.step_subports Rattle.multiportgraph.specs.Walks.subports_of Rattle.multiportgraph.specs.Walks.subport_beyond Rattle.port_tables.specs.Lists.on_first
+unfolding asked Rattle.port_tables.specs.Tables.at Rattle.port_tables.specs.Tables.put Rattle.port_tables.specs.Tables.fill Rattle.port_tables.specs.Tables.fill_range Rattle.port_tables.specs.Tables.head_at Rattle.port_tables.specs.Tables.put_head Rattle.port_tables.specs.Tables.own_block Rattle.port_tables.specs.Tables.link_both Rattle.port_tables.specs.Tables.cut_far Rattle.port_tables.specs.Tables.cut Rattle.port_tables.specs.Tables.cut_range Rattle.port_tables.specs.Tables.link_count Rattle.port_tables.specs.Tables.cut_count Rattle.port_tables.specs.Tables.relink Rattle.port_tables.specs.Tables.move_port Rattle.port_tables.specs.Tables.move_up Rattle.port_tables.specs.Tables.move_down Rattle.port_tables.specs.Tables.shift Rattle.port_tables.specs.Tables.transfer Rattle.port_tables.specs.Tables.chain_block Rattle.port_tables.specs.Tables.told_link Rattle.port_tables.specs.Tables.drop_events Rattle.port_tables.specs.Tables.move_up_events Rattle.port_tables.specs.Tables.move_down_events Rattle.port_tables.specs.Tables.shift_events Rattle.port_tables.specs.Entries.port_entry Rattle.port_tables.specs.Entries.set_prev Rattle.portgraph.specs.Calls.new_graph Rattle.portgraph.specs.Calls.find_slot_under Rattle.portgraph.specs.Calls.find_block_under Rattle.portgraph.specs.Calls.rest_of Rattle.portgraph.specs.Calls.grown Rattle.portgraph.specs.Calls.slot_after Rattle.portgraph.specs.Calls.place_node Rattle.portgraph.specs.Calls.add_node_under Rattle.portgraph.specs.Calls.free_node Rattle.portgraph.specs.Calls.remove_node Rattle.portgraph.specs.Calls.link_ports Rattle.portgraph.specs.Calls.unlink_port Rattle.port_tables.specs.ResizeLinks.doubled Rattle.port_tables.specs.ResizeLinks.round_up Rattle.port_tables.specs.ResizeLinks.same_counts Rattle.port_tables.specs.ResizeLinks.fits_inside Rattle.portgraph.specs.Resize.plan_of_under Rattle.port_tables.specs.ResizeLinks.drop_incoming Rattle.port_tables.specs.ResizeLinks.drop_links Rattle.port_tables.specs.ResizeLinks.drop_count Rattle.port_tables.specs.ResizeLinks.drop_told Rattle.port_tables.specs.ResizeLinks.inside_links Rattle.portgraph.specs.Resize.resize_inside Rattle.portgraph.specs.Resize.inside_told Rattle.port_tables.specs.ResizeLinks.anew_links Rattle.portgraph.specs.Resize.resize_anew Rattle.portgraph.specs.Resize.anew_told Rattle.portgraph.specs.Resize.set_num_ports_under Rattle.portgraph.specs.Resize.moves_after_under Rattle.portgraph.specs.Meaning.upd Rattle.portgraph.specs.Meaning.same_place Rattle.portgraph.specs.Meaning.drop_join Rattle.portgraph.specs.Meaning.link_join Rattle.portgraph.specs.Meaning.hand_over Rattle.multiportgraph.specs.Reading.far_port Rattle.multiportgraph.specs.Reading.has_link Rattle.multiportgraph.specs.Reading.owner_of Rattle.multiportgraph.specs.Reading.port_of Rattle.multiportgraph.specs.Reading.position_of Rattle.multiportgraph.specs.Reading.is_hidden Rattle.multiportgraph.specs.Reading.is_split Rattle.multiportgraph.specs.Reading.seen Rattle.multiportgraph.specs.Reading.copy_node Rattle.multiportgraph.specs.Reading.subports Rattle.multiportgraph.specs.Reading.subport_at Rattle.multiportgraph.specs.Reading.end_at Rattle.multiportgraph.specs.Reading.as_read Rattle.multiportgraph.specs.Reading.copy_side Rattle.multiportgraph.specs.Reading.main_port Rattle.multiportgraph.specs.Reading.subport_of Rattle.multiportgraph.specs.Graph.empty_graph Rattle.multiportgraph.specs.Calls.add_block_under Rattle.multiportgraph.specs.HiddenNodes.remove_copy Rattle.multiportgraph.specs.HiddenNodes.unsplit Rattle.multiportgraph.specs.HiddenNodes.unsplit_range Rattle.multiportgraph.specs.Calls.drop_block Rattle.multiportgraph.specs.Calls.remove_block Rattle.multi_tables.specs.Forms.lay_range Rattle.multi_tables.specs.Forms.lay_marks Rattle.multiportgraph.specs.HiddenNodes.recounted Rattle.multiportgraph.specs.HiddenNodes.copies_in Rattle.multiportgraph.specs.HiddenNodes.copies_dropped Rattle.multiportgraph.specs.HiddenNodes.remove_lone Rattle.multiportgraph.specs.HiddenNodes.remove_all Rattle.multiportgraph.specs.Calls.set_counts_under Rattle.multiportgraph.specs.Calls.moves_told_under Rattle.multiportgraph.specs.HiddenNodes.split_graph Rattle.multiportgraph.specs.HiddenNodes.split_port Rattle.multiportgraph.specs.HiddenNodes.split_under Rattle.multiportgraph.specs.HiddenNodes.lowest_free Rattle.multiportgraph.specs.HiddenNodes.grow_under Rattle.multiportgraph.specs.HiddenNodes.reuse_under Rattle.multiportgraph.specs.HiddenNodes.prepare_under Rattle.multiportgraph.specs.Calls.link_pair_if Rattle.multiportgraph.specs.Calls.link_clean_if Rattle.multiportgraph.specs.Calls.link_sub_if Rattle.multiportgraph.specs.Refusals.wired_input Rattle.multiportgraph.specs.Refusals.input_taken Rattle.multiportgraph.specs.Calls.cut_port Rattle.multiportgraph.specs.Calls.cut_sub Rattle.multiportgraph.specs.Tidy.linked_up_to Rattle.multiportgraph.specs.Tidy.subports_left Rattle.multiportgraph.specs.Tidy.resized_within Rattle.multiportgraph.specs.Tidy.drop_subports Rattle.multiportgraph.specs.Tidy.link_directly Rattle.multiportgraph.specs.Tidy.tidied Rattle.multiportgraph.specs.Calls.tidy_port Rattle.multiportgraph.specs.Calls.subport_link Rattle.multiportgraph.specs.Calls.visible_nodes Rattle.multiportgraph.specs.Calls.visible_ports Rattle.multiportgraph.specs.Calls.visible_links Rattle.port_tables.specs.Lists.range mathlib.Core.List.flat_map Rattle.multiportgraph.specs.Wires.is_block Rattle.multiportgraph.specs.Wires.blocks Rattle.multiportgraph.specs.Wires.ports_of_side Rattle.multiportgraph.specs.Wires.subports_of_port Rattle.multiportgraph.specs.Wires.subports_of_side Rattle.multiportgraph.specs.Wires.wire_of Rattle.multiportgraph.specs.Wires.side_links Rattle.multiportgraph.specs.Wires.all_wires Rattle.multiportgraph.specs.Wires.is_beyond Rattle.multiportgraph.specs.Wires.wires_beyond Rattle.multiportgraph.specs.Wires.step_wires Rattle.multiportgraph.specs.Wires.walk_wires Rattle.multiportgraph.specs.Reading.place_of Rattle.multiportgraph.specs.Wires.walked Rattle.multiportgraph.specs.Wires.wires_walked Rattle.multiportgraph.specs.Lookups.port_fan_out Rattle.multiportgraph.specs.Lookups.node_fan_out Rattle.multiportgraph.specs.Walks.port_links Rattle.multiportgraph.specs.Walks.fan_out Rattle.multi_tables.specs.Forms.sum_of Rattle.multiportgraph.specs.Walks.block_fan_out Rattle.multiportgraph.specs.Walks.start_at_node Rattle.multiportgraph.specs.Walks.step_subports Rattle.multiportgraph.specs.Walks.subports_of Rattle.multiportgraph.specs.Walks.subport_beyond Rattle.port_tables.specs.Lists.on_first
 all_tables = (refl, refl, refl, inputs, refl)
   where
     inputs : (release : Release) → asked_under release (input_lines release) ≡ expected_all (input_lines release)

@@ -4,13 +4,14 @@ use Rattle.std.specs.Prelude.{◌≡◌, Bool, ◌⊎◌, leb, ltb, Option, Some
 use Rattle.std.proofs.Math.Path.{refl, sym, ap}
 use Rattle.std.proofs.Common.{◌∙◌, subst, inr, ⊎_elim, arith}
 use Rattle.std.proofs.Math.Bool.{true, false, cond}
-use mathlib.Core.List.{List, [], flat_map, map}
+use mathlib.Core.List.{List, [], flat_map, map, map-id}
 use Rattle.std.proofs.Math.Logic.{inl}
 use Prim.Native.Nat.{ℕ, suc, ◌-◌, ◌≤◌, ◌<◌}
 use Rattle.std.proofs.Math.Dec.{eqb}
 use Rattle.std.proofs.Math.ListN.{length}
 use borrow.Author.Tests.{lt-ltb, le-ltb, le-leb, ltb-true, leb-true, eqb-true, eqb-false, leb-false}
-use Rattle.port_tables.specs.Lists.{range, filter, on_first, Member, Rising}
+use Rattle.port_tables.specs.Lists.{range, on_first, Member, Rising}
+use Rattle.std.specs.List.{filter}
 use Rattle.port_tables.specs.Entries.{ports_on, port#, ports_from}
 use Rattle.portgraph.specs.Lookups.{contains_node}
 use Rattle.portgraph.specs.GoodSlots.{zero_is_not_one}
@@ -27,7 +28,7 @@ use Rattle.multiportgraph.specs.Walks.{Start, started, refused, start_at_node, s
 use Rattle.multiportgraph.specs.WellFormed.{MultiWf}
 use Rattle.port_tables.specs.Listing.{member_flat_map, member_range, member_filter, filter_all, rising_filter, rising_flat_map, range_rises, member_append, filter_same, length_map}
 use Rattle.multiportgraph.specs.ScanLaws.{is_past, past_later, past_here, past_earlier, links_from_to, subports_from_to, subports_seen, subports_at, link_at_port, subport_at_port, links_in_row, subports_in_row, ports_in_row, block_not_hidden, block_has_meta, port_seen_there, ports_across, side_in_row}
-use Rattle.theorems.specs.Cursors.{Stepped, item, end, walk, Listed, Fronts, walk_front, first_if, map_same, rising_as, walk_nothing}
+use Rattle.theorems.specs.Cursors.{Stepped, item, end, walk, Listed, Fronts, walk_front, first_if, rising_as, walk_nothing}
 use Rattle.multiportgraph.specs.declared.multiportgraph.MultiPortGraph.{MultiPortGraph}
 use Rattle.multi_tables.specs.declared.answers.SubportIndex.{SubportIndex}
 use Rattle.multi_tables.specs.declared.answers.SubportLink.{SubportLink}
@@ -417,7 +418,7 @@ module _ {m : MultiPortGraph} (w : MultiWf m) where
       ap (λ (v : List ℕ). cond (both_seen m c.node.0 c.held) v [])
       (filter_same (is_past (λ q. q) (λ q. 0) c.held 0) (leb c.held) (ports_of_node m c.node.0 c.sides) (λ p i. past_is_leb c.held 0 p)) in
       one_front (node_ports_walk c.node c.sides) fuel c.held 0 (subst (λ (v : List ℕ). length v < fuel) (sym e) h)
-      ∙ (ap whole (map_same (left_past (λ p. p) (λ p. 0) (ports_of_node m c.node.0 c.sides) (both_seen m c.node.0) c.held 0)) ∙ ap whole e)
+      ∙ (ap whole (map-id (left_past (λ p. p) (λ p. 0) (ports_of_node m c.node.0 c.sides) (both_seen m c.node.0) c.held 0)) ∙ ap whole e)
 
   subports_walk : (n : NodeIndex) (sides : Sides) → OneEnded subport_port subport_offset (subports_of m n.0 sides) (both_seen m n.0) (λ s. s) (subports_cursor n sides) (by_subports m)
   unfolding step_subports subport_beyond
@@ -432,7 +433,7 @@ module _ {m : MultiPortGraph} (w : MultiWf m) where
 
   pub subports_forward : (c : NodeSubports) (fuel : ℕ) → length (subports_left m c) < fuel → walk (by_subports m) fuel c ≡ whole (subports_left m c)
   unfolding subports_left subport_beyond
-  subports_forward c fuel h = one_front (subports_walk c.node c.sides) fuel c.held.port c.held.offset h ∙ ap whole (map_same (subports_left m c))
+  subports_forward c fuel h = one_front (subports_walk c.node c.sides) fuel c.held.port c.held.offset h ∙ ap whole (map-id (subports_left m c))
 
   -- links of a block, under any test
   link_walk : {B C : Type 0} (n : ℕ) (sides : Sides) (t : SubportLink → Bool) (held : ℕ → Bool) (out : SubportLink → B) (cursor : ℕ → ℕ → C) (step : C → Stepped B C) →
@@ -456,7 +457,7 @@ module _ {m : MultiPortGraph} (w : MultiWf m) where
   pub node_links_forward : (c : NodeLinks) (fuel : ℕ) → length (node_links_left m c) < fuel → walk (by_links m) fuel c ≡ whole (node_links_left m c)
   unfolding node_links_left is_beyond
   node_links_forward c fuel h =
-      one_front (node_links_walk c.node c.sides c.skip.from c.skip.to) fuel c.held.port c.held.offset h ∙ ap whole (map_same (node_links_left m c))
+      one_front (node_links_walk c.node c.sides c.skip.from c.skip.to) fuel c.held.port c.held.offset h ∙ ap whole (map-id (node_links_left m c))
 
   neighbours_walk : (n : NodeIndex) (sides : Sides) (flag : Bool) → OneEnded link_port link_offset (neighbour_links m n.0 sides flag) (both_seen m n.0) (neighbour_of m) (neighbours_cursor n sides flag) (by_neighbours m)
   unfolding step_neighbours neighbour_links
@@ -477,7 +478,7 @@ module _ {m : MultiPortGraph} (w : MultiWf m) where
 
   pub connections_forward : (c : NodeConnections) (fuel : ℕ) → length (connections_left m c) < fuel → walk (by_connections m) fuel c ≡ whole (connections_left m c)
   unfolding connections_left is_beyond
-  connections_forward c fuel h = one_front (connections_walk c.node c.target) fuel c.held.port c.held.offset h ∙ ap whole (map_same (connections_left m c))
+  connections_forward c fuel h = one_front (connections_walk c.node c.target) fuel c.held.port c.held.offset h ∙ ap whole (map-id (connections_left m c))
 
 -- A start that is not refused leaves the whole listing.
 

@@ -1,7 +1,8 @@
 -- The wire book of 01: fed each call with its answer, the marks before it of the ports that it names and, after an accepted
 -- resize, the node's ports as walked. No graph stands in its types.
 use Rattle.std.specs.Prelude.{Bool, false, not, cond, List, [], ◌∷◌, ℕ, suc, ◌+◌, eqb, take, drop, Option, Some, None, Result, Ok, Err}
-use Rattle.port_tables.specs.Lists.{range, filter}
+use Rattle.port_tables.specs.Lists.{range}
+use Rattle.std.specs.List.{filter}
 use Rattle.port_tables.specs.declared.direction.Direction.{Direction}
 use Rattle.port_tables.specs.declared.direction.Direction.TheVariants.{Incoming, Outgoing}
 use Rattle.port_tables.specs.Places.{Spot, nowhere, spot, at_spot, at_end, wire_of_sides, of_node, of_dropped, Place, Wire, without, next_offset}

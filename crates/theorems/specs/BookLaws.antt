@@ -4,67 +4,49 @@ use Rattle.std.specs.Prelude.{◌≡◌, refl, Bool, cond, not, ◌||◌, ◌⊎
 use Rattle.std.proofs.Common.{sym, ap, ◌∙◌, subst, inl, inr, arith, eqb-true, eq-eqb, ne_eqb}
 use Rattle.std.proofs.Math.Bool.{true, false}
 use mathlib.Core.List.{List, [], ◌∷◌}
-use Rattle.std.proofs.lemmas.Bool.{eqb-false}
-use Rattle.port_tables.specs.Lists.{range, filter, Member, Once}
+use Rattle.std.proofs.lemmas.Bool.{eqb-false, false_from_ne_true, or_right}
+use Rattle.port_tables.specs.Lists.{range, Member, Once}
+use Rattle.std.specs.List.{filter}
 use Rattle.portgraph.specs.Model.{total}
 use Rattle.portgraph.specs.Sums.{total_same}
 use Rattle.port_tables.specs.declared.direction.Direction.{Direction}
 use Rattle.port_tables.specs.declared.direction.Direction.TheVariants.{Incoming, Outgoing}
 use Rattle.theorems.specs.Book.{spot_among}
 use Rattle.port_tables.specs.Places.{without, any_touches, lowest_unwired, next_offset, Place, Wire, Spot, spot, at_end, touches, flag}
-use Rattle.port_tables.specs.Listing.{member_filter, filter_member, in_wires, wire_member}
+use Rattle.port_tables.specs.Listing.{member_filter, filter_member, flag_small}
 use Rattle.multiportgraph.specs.LinkCutLaws.{end_is_same}
 use Rattle.theorems.specs.Claims.{count}
+use Rattle.multiportgraph.specs.CountLaws.{total_add}
 
 -- truth values
 pub not_so_true : (b : Bool) → not b ≡ true → b ≡ false
 not_so_true true e = sym e
 not_so_true false e = refl
 
-pub so_not_false : (b : Bool) → (b ≡ true → ⊥) → b ≡ false
-so_not_false true h = absurd (h refl)
-so_not_false false h = refl
-
 pub or_true : (a b : Bool) → (a || b) ≡ true → (a ≡ true) ⊎ (b ≡ true)
 or_true true b e = inl refl
 or_true false b e = inr e
 
-pub or_right : (a b : Bool) → b ≡ true → (a || b) ≡ true
-or_right true b e = refl
-or_right false b e = e
-
 -- Wires left by a test.
 
 module _ (f : Wire → Bool) where
-  wire_left : (w : Wire) (l : List Wire) → Member w l → f w ≡ true → Member w (filter f l)
-  wire_left w l i t = in_wires w (filter f l) (filter_member f w l (wire_member w l i) t)
-
-  left_wire : (w : Wire) (l : List Wire) → Member w (filter f l) → Member w l × (f w ≡ true)
-  left_wire w l i = let r = member_filter f w l (wire_member w (filter f l) i) in (in_wires w l r.0, r.1)
-
   pub left_once : (l : List Wire) → Once l → Once (filter f l)
-  unfolding filter
   left_once [] o = tt
   left_once (v ∷ l) o = go (f v) (left_once l o.1)
     where
       go : (b : Bool) → Once (filter f l) → Once (cond b (v ∷ filter f l) (filter f l))
-      go true r = ((λ h. o.0 (left_wire v l h).0), r)
+      go true r = ((λ h. o.0 (member_filter f v l h).0), r)
       go false r = r
 
 pub wire_stays : (f : Place → Bool) (w : Wire) (l : List Wire) → Member w l → touches f w ≡ false → Member w (without f l)
-wire_stays f w l i t = wire_left (λ v. not (touches f v)) w l i (ap not t)
+wire_stays f w l i t = filter_member (λ v. not (touches f v)) w l i (ap not t)
 
 pub stayed_wire : (f : Place → Bool) (w : Wire) (l : List Wire) → Member w (without f l) → Member w l × (touches f w ≡ false)
 stayed_wire f w l i =
-    let r = left_wire (λ v. not (touches f v)) w l i in
+    let r = member_filter (λ v. not (touches f v)) w l i in
     (r.0, not_so_true (touches f w) r.1)
 
 -- Runs of slots.
-
-pub length_range : (a n : ℕ) → length (range a n) ≡ n
-unfolding range
-length_range a zero = refl
-length_range a (suc n) = ap suc (length_range (suc a) n)
 
 -- a port among a run of slots, or beside it
 pub among_run : (n : ℕ) (d : Direction) (a k j i : ℕ) (other : Spot) → i < k → spot_among n d (a + i) (range a k) j other ≡ spot n d (j + i)
@@ -121,11 +103,6 @@ lowest_from l s i (suc n) o a b wired free = go (eqb i o) refl (λ h. lowest_fro
 abbrev pub Sided : Wire → Type 0
 Sided w = (w.out.side ≡ Outgoing) × (w.into.side ≡ Incoming)
 
-total_sum : (n : ℕ) (f g : ℕ → ℕ) → total n (λ i. f i + g i) ≡ total n f + total n g
-unfolding total
-total_sum zero f g = refl
-total_sum (suc n) f g = let e : total n (λ i. f i + g i) ≡ total n f + total n g = total_sum n f g in omega arith
-
 total_le : (n : ℕ) (f g : ℕ → ℕ) → ((i : ℕ) → i < n → f i ≤ g i) → total n f ≤ total n g
 unfolding total
 total_le zero f g h = omega arith
@@ -144,10 +121,6 @@ unfolding total
 total_zeros zero = refl
 total_zeros (suc n) = let e : total n (λ i. 0) ≡ 0 = total_zeros n in omega arith
 
-flag_small : (b : Bool) → flag b ≤ 1
-flag_small true = omega arith
-flag_small false = omega arith
-
 flag_or : (a b : Bool) → flag (a || b) ≤ flag a + flag b
 flag_or true b = omega arith
 flag_or false b = omega arith
@@ -161,7 +134,7 @@ at_most_once (suc n) f one = go (f n) refl (at_most_once n f one)
     go : (b : Bool) → f n ≡ b → total n (λ i. flag (f i)) ≤ 1 → total n (λ i. flag (f i)) + flag (f n) ≤ 1
     go true e r =
         let z : total n (λ i. flag (f i)) ≡ total n (λ i. 0) =
-        total_same n (λ i. flag (f i)) (λ i. 0) (λ i k. ap flag (so_not_false (f i) (λ t. let q : i ≡ n = one i n t e in omega arith))) in
+        total_same n (λ i. flag (f i)) (λ i. 0) (λ i k. ap flag (false_from_ne_true (f i) (λ t. let q : i ≡ n = one i n t e in omega arith))) in
         omega (arith, total_zeros n, flag_small (f n))
     go false e r = rw e (omega arith)
 
@@ -193,7 +166,7 @@ wired_offsets n d p o (w ∷ l) s =
     let le = total_le o (λ j. flag ((touches (at_end (spot n d p) j) w) || (any_touches (at_end (spot n d p) j) l)))
     (λ j. flag (touches (at_end (spot n d p) j) w) + flag (any_touches (at_end (spot n d p) j) l))
     (λ j k. flag_or (touches (at_end (spot n d p) j) w) (any_touches (at_end (spot n d p) j) l)) in
-    let sum = total_sum o (λ j. flag (touches (at_end (spot n d p) j) w)) (λ j. flag (any_touches (at_end (spot n d p) j) l)) in
+    let sum = total_add o (λ j. flag (touches (at_end (spot n d p) j) w)) (λ j. flag (any_touches (at_end (spot n d p) j) l)) in
     omega arith
 
 -- every offset below o is wired at the spot, and o is not

@@ -4,16 +4,17 @@ use Rattle.std.specs.Prelude.{◌≡◌, Bool, cond}
 use Rattle.std.proofs.Math.Path.{refl, sym, ap, subst}
 use Rattle.std.proofs.Common.{◌∙◌}
 use Rattle.std.proofs.Math.Bool.{true, false}
-use mathlib.Core.List.{List, [], ◌∷◌, ◌++◌, append_assoc, append-nil, map}
+use mathlib.Core.List.{List, [], ◌∷◌, ◌++◌, append_assoc, append-nil, map, map-append}
 use Rattle.std.proofs.Math.Logic.{inl, inr}
 use Prim.Native.Nat.{ℕ, zero, suc, ◌-◌, ◌≤◌, ◌<◌}
 use native.Mathlib.Omega.{arith}
 use Rattle.std.proofs.Math.ListN.{length}
-use Rattle.port_tables.specs.Lists.{filter, on_first, on_last, Member, Rising}
+use Rattle.port_tables.specs.Lists.{on_first, on_last, Member, Rising}
+use Rattle.std.specs.List.{filter}
 use Rattle.portgraph.specs.GoodSlots.{zero_is_not_one}
 use Rattle.portgraph.specs.WalkLaws.{Walked, whole, unfinished, more}
-use Rattle.multiportgraph.specs.Ends.{map_append}
-use Rattle.port_tables.specs.Listing.{Apart, member_left, member_right, member_filter, filter_all, filter_append, rising_filter}
+use Rattle.port_tables.specs.Listing.{Apart, member_left, member_right, member_filter, filter_all, rising_filter}
+use Rattle.std.proofs.lemmas.List.Elements.{filter-append}
 
 -- What a step answers: an item with the cursor moved, or the end.
 pub data Stepped (B C : Type 0) : Type 0 where
@@ -304,16 +305,9 @@ module _ {S T : Type 0} (g : S → T) where
   first_if true e f l = first_map e f l
   first_if false e f l = refl
 
-pub map_same : {A : Type 0} (l : List A) → map (λ x. x) l ≡ l
-map_same [] = refl
-map_same {A} (x ∷ l) = ap (λ (r : List A). x ∷ r) (map_same l)
-
 pub rising_as : {A : Type 0} (R S : A → A → Type 0) (l : List A) → ((x y : A) → Member x l → Member y l → R x y → S x y) → Rising R l → Rising S l
 rising_as R S [] h r = tt
 rising_as R S (x ∷ l) h r = ((λ y i. h x y (inl refl) (inr i) (r.0 y i)), rising_as R S l (λ y z i j. h y z (inr i) (inr j)) r.1)
-
-pub rising_apart : {A : Type 0} (R : A → A → Type 0) (l : List A) → ((x : A) → R x x → ⊥) → Rising R l → Rising Apart l
-rising_apart R l h r = rising_as R Apart l (λ x y i j q e. h x (subst (R x) (sym e) q)) r
 
 -- A list that ascends, and what a cursor at a position leaves of it.
 
@@ -351,7 +345,6 @@ pub record Backs {A B K C : Type 0} (l : Listed A B K C) (step : C → Stepped B
 
 -- a narrower test can be made of what a wider one has left
 filter_narrow : {A : Type 0} (t u : A → Bool) (l : List A) → ((x : A) → t x ≡ true → u x ≡ true) → filter t l ≡ filter t (filter u l)
-unfolding filter
 filter_narrow t u [] h = refl
 filter_narrow {A} t u (x ∷ l) h = go (t x) refl (u x) refl (filter_narrow t u l h)
   where
@@ -370,7 +363,6 @@ module _ {A B K C : Type 0} (l : Listed A B K C) where
   -- what is left after a step
   module _ {step : C → Stepped B C} (f : Fronts l step) where
     front_left : (k : K) (x : A) (r : List A) → left_of l k ≡ x ∷ r → left_of l (f.next k x) ≡ r
-    unfolding filter
     front_left k x r e =
         let had = member_filter (l.left k) x l.listing (subst (Member x) (sym e) (inl refl)) in
         let up : Rising l.before (x ∷ r) = subst (Rising l.before) e (rising_filter l.before (l.left k) l.listing l.rises) in
@@ -400,7 +392,6 @@ module _ {A B K C : Type 0} (l : Listed A B K C) where
 
   module _ {step : C → Stepped B C} (b : Backs l step) where
     back_left : (k : K) (x : A) (r : List A) → left_of l k ≡ r ++ (x ∷ []) → left_of l (b.next k x) ≡ r
-    unfolding filter
     back_left k x r e =
         let had = member_filter (l.left k) x l.listing (subst (Member x) (sym e) (member_right x r (x ∷ []) (inl refl))) in
         let up : Rising l.before (r ++ (x ∷ [])) = subst (Rising l.before) e (rising_filter l.before (l.left k) l.listing l.rises) in
@@ -411,7 +402,7 @@ module _ {A B K C : Type 0} (l : Listed A B K C) where
         (rising_last l.before r x up y i)) in
         filter_narrow (l.left (b.next k x)) (l.left k) l.listing (λ y h. b.fewer k x y had.1 h)
         ∙ (ap (filter (l.left (b.next k x))) e
-        ∙ (filter_append (l.left (b.next k x)) r (x ∷ [])
+        ∙ (filter-append (l.left (b.next k x)) r (x ∷ [])
         ∙ rw (b.itself k x) (append-nil (filter (l.left (b.next k x)) r) ∙ all)))
 
     back_stays : (k : K) (x : A) (r : List A) → l.there k → left_of l k ≡ r ++ (x ∷ []) → l.there (b.next k x)
@@ -434,7 +425,7 @@ module _ {A B K C : Type 0} (l : Listed A B K C) where
         turn fuel k r x t e rest =
             ap (onward (walk step fuel)) (back_gives_last k x r t e)
             ∙ (ap (more (l.out x)) rest
-            ∙ ap whole (sym (ap backwards (map_append l.out r (x ∷ [])) ∙ backwards_last (map l.out r) (l.out x))))
+            ∙ ap whole (sym (ap backwards (map-append l.out r (x ∷ [])) ∙ backwards_last (map l.out r) (l.out x))))
 
         go : (fuel : ℕ) (k : K) (r : List A) → l.there k → left_of l k ≡ r → length r < fuel → walk step fuel (l.cursor k) ≡ whole (backwards (map l.out r))
         go zero k r t e h = absurd (omega arith)
@@ -458,7 +449,7 @@ module _ {A B K C : Type 0} (l : Listed A B K C) where
         turn choices k r x t e rest =
             ap (answered (l.cursor k) (walk_ends step step_back choices)) (back_gives_last b k x r t e)
             ∙ (ap (λ (v : List (Answer B)). gave (l.out x) ∷ v) rest
-            ∙ sym (ap (take_ends (back ∷ choices)) (map_append l.out r (x ∷ [])) ∙ take_back choices (map l.out r) (l.out x)))
+            ∙ sym (ap (take_ends (back ∷ choices)) (map-append l.out r (x ∷ [])) ∙ take_back choices (map l.out r) (l.out x)))
 
         go : (choices : List From) (k : K) (r : List A) → l.there k → left_of l k ≡ r → walk_ends step step_back choices (l.cursor k) ≡ take_ends choices (map l.out r)
         go [] k r t e = refl

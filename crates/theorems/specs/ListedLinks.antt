@@ -29,11 +29,12 @@ use Rattle.port_tables.specs.Listing.{member_flat_map, flat_map_member, member_m
 use Rattle.multiportgraph.specs.declared.multiportgraph.MultiPortGraph.{MultiPortGraph}
 use Rattle.multi_tables.specs.declared.answers.SubportIndex.{SubportIndex}
 use Rattle.multi_tables.specs.declared.answers.SubportLink.{SubportLink}
-use Rattle.theorems.specs.BookLaws.{or_true, or_right}
+use Rattle.theorems.specs.BookLaws.{or_true}
 use Rattle.theorems.specs.ListingClaims.{wire_from}
 use Rattle.port_tables.specs.Entries.{reversed}
 use Rattle.port_tables.specs.declared.index.PortIndex.{PortIndex}
 use Rattle.portgraph.specs.declared.portgraph.NoSuchPort.{NoSuchPort}
+use Rattle.std.proofs.lemmas.Bool.{or_right}
 
 -- the end of a port at which a wire ends is read as named
 module _ {m : MultiPortGraph} {M : Model} (f : Fine m M) (x z : model.InnerPlace) (o : ℕ) (e : IsEnd m M z) (is : outer m M z ≡ lift x o) where

@@ -2,7 +2,8 @@
 -- tells of each, by side and position; which hidden nodes go with them; a port that stays split.
 use Rattle.std.specs.Prelude.{◌≡◌, Bool, true, false, cond, List, [], ◌∷◌, ◌++◌, map, ℕ, zero, suc, ◌+◌, ◌-◌, min, eqb, ltb}
 use Rattle.port_tables.specs.Limits.{no_port}
-use Rattle.port_tables.specs.Lists.{range, filter}
+use Rattle.port_tables.specs.Lists.{range}
+use Rattle.std.specs.List.{filter}
 use Rattle.portgraph.specs.Lookups.{num_ports, node_port_capacity}
 use Rattle.port_tables.specs.declared.direction.Direction.{Direction}
 use Rattle.port_tables.specs.declared.direction.Direction.TheVariants.{Incoming, Outgoing}

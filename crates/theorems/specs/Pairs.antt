@@ -1,18 +1,11 @@
 -- Answers that hold a pair: two that are equal have equal parts.
-use Rattle.std.specs.Prelude.{◌≡◌, Option, Some, None, Result, Ok, Err}
+use Rattle.std.specs.Prelude.{◌≡◌, Result, Ok, Err}
 use Rattle.std.proofs.Math.Path.{ap}
 
 module _ {A B : Type 0} (a : A) (b : B) where
-  abbrev in_some : Option (A × B) → A × B
-  in_some (Some p) = p
-  in_some None = (a, b)
-
   abbrev in_ok : {E : Type 0} → Result (A × B) E → A × B
   in_ok (Ok p) = p
   in_ok (Err r) = (a, b)
-
-pub some_pair : {A B : Type 0} {a x : A} {b y : B} → ◌≡◌ {A = Option (A × B)} (Some (a, b)) (Some (x, y)) → (a ≡ x) × (b ≡ y)
-some_pair {A} {B} {a} {x} {b} {y} e = (ap (λ o. (in_some a b o).0) e, ap (λ o. (in_some a b o).1) e)
 
 pub ok_pair : {A B E : Type 0} {a x : A} {b y : B} → ◌≡◌ {A = Result (A × B) E} (Ok (a, b)) (Ok (x, y)) → (a ≡ x) × (b ≡ y)
 ok_pair {A} {B} {E} {a} {x} {b} {y} e = (ap (λ o. (in_ok a b o).0) e, ap (λ o. (in_ok a b o).1) e)

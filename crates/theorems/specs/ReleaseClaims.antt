@@ -2,7 +2,7 @@
 -- history with their answers, from which those that gave 18 can be left out.
 use Rattle.std.specs.Prelude.{Bool, false, not, List, [], ◌∷◌, map, ℕ, eqb}
 use Rattle.port_tables.specs.Limits.{present}
-use Rattle.port_tables.specs.Lists.{filter}
+use Rattle.std.specs.List.{filter}
 use Rattle.multiportgraph.specs.Graph.{multi, empty_graph}
 use Rattle.multiportgraph.specs.Calls.{link_pair_if, link_clean_if, link_sub_if}
 use Rattle.multiportgraph.specs.declared.multiportgraph.MultiPortGraph.{MultiPortGraph}

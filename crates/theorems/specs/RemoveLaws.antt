@@ -24,7 +24,7 @@ use Rattle.multiportgraph.specs.WellFormed.{copy_place, Fine, BlockIs, Seen, out
 use Rattle.multiportgraph.specs.Ends.{main_seen, outer_of_subport, outer_of_block}
 use Rattle.multiportgraph.specs.HiddenStays.{true_not_false, same_wire, Frame, plain_frame, frame_fine, outer_kept, Alike, wire_kept, kept_wire, hidden_below, split_below}
 use Rattle.multiportgraph.specs.LinkCutLaws.{touches_neither, touched_not_out, touched_not_into, at_spot_is}
-use Rattle.multiportgraph.specs.CopyLaws.{port_at, removed_holds, CopyGone, unsplit_gone, unsplit_whole}
+use Rattle.multiportgraph.specs.CopyLaws.{port_at, removed_holds, CopyGone, unsplit_gone}
 use Rattle.multiportgraph.specs.declared.multiportgraph.MultiPortGraph.{MultiPortGraph}
 use Rattle.multi_tables.specs.declared.answers.Refusal.TheVariants.{HiddenNode}
 use Rattle.multiportgraph.specs.declared.multiportgraph.NodeRemoved.{NodeRemoved}
@@ -34,6 +34,7 @@ use Rattle.multiportgraph.specs.HiddenNodes.{unsplit, unsplit_range}
 use Rattle.multiportgraph.specs.Cases.{remove_meta, remove_refused}
 use Rattle.multiportgraph.specs.CaseLaws.{remove_cases}
 use Rattle.multi_tables.specs.declared.answers.Refusal.{Refusal}
+use Rattle.multiportgraph.specs.CopySteps.{unsplit_plain}
 
 -- Ports lose their hidden nodes.
 
@@ -121,7 +122,7 @@ range_passed (suc j) {m} {M} f n k b p low high =
         → (M' : Model) × Passed m M (unsplit_range (unsplit m p) (suc p) j) M' n p (suc j)
     go rest false e x =
         let r = rest m M f b in
-        (r.0, passed_whole p j e (subst (λ (u : MultiPortGraph). Passed m M (unsplit_range u (suc p) j) r.0 n (suc p) j) (sym (unsplit_whole m p e)) r.1))
+        (r.0, passed_whole p j e (subst (λ (u : MultiPortGraph). Passed m M (unsplit_range u (suc p) j) r.0 n (suc p) j) (unsplit_plain m p e) r.1))
     go rest true e x =
         let c = unsplit_gone f x.0 x.1 (ap (is_split m) x.2 ∙ e) in
         let g : CopyGone m M x.0 (unsplit m p) c.0 = subst (λ (s : ℕ). CopyGone m M x.0 (unsplit m s) c.0) x.2 c.1 in

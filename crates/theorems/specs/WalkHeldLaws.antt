@@ -1,6 +1,5 @@
 -- A cursor whose node or port is gone or hidden ends its walk, and a step never gives an item that is not listed or does not lie
 -- beyond what its cursor holds. Each holds of any graph and any cursor.
-use Rattle.theorems.specs.Pairs.{some_pair}
 use Rattle.std.specs.Prelude.{◌≡◌, Bool, ◌⊎◌, ℕ, suc, ◌-◌, ◌≤◌, eqb, leb, Some, None, Option}
 use Rattle.std.proofs.Math.Path.{refl, sym, ap}
 use Rattle.std.proofs.Common.{◌∙◌, subst}
@@ -9,7 +8,8 @@ use mathlib.Core.List.{List, [], ◌∷◌}
 use Rattle.std.proofs.Math.Logic.{inl, inr}
 use native.Mathlib.Omega.{arith}
 use borrow.Author.Tests.{ne_eqb, leb-true}
-use Rattle.port_tables.specs.Lists.{filter, on_first, on_last, Member}
+use Rattle.port_tables.specs.Lists.{on_first, on_last, Member}
+use Rattle.std.specs.List.{filter}
 use Rattle.port_tables.specs.Entries.{node#, port#}
 use Rattle.portgraph.specs.GoodSlots.{zero_is_not_one}
 use Rattle.port_tables.specs.declared.index.NodeIndex.{NodeIndex}
@@ -31,16 +31,18 @@ use Rattle.multiportgraph.specs.declared.iter.NodeLinks.{NodeLinks}
 use Rattle.multiportgraph.specs.declared.iter.Neighbours.{Neighbours}
 use Rattle.multiportgraph.specs.declared.iter.NodeConnections.{NodeConnections}
 use Rattle.multiportgraph.specs.declared.iter.Wires.{Wires}
-use Rattle.theorems.specs.WalkStepLaws.{less, nodes_at, ports_at, link_offset, port_links_at}
+use Rattle.theorems.specs.WalkStepLaws.{nodes_at, ports_at, link_offset, port_links_at}
+use Rattle.portgraph.specs.WalkLaws.{one_less}
+use Rattle.std.proofs.lemmas.Option.{some_pair_parts}
 
 -- Gone or hidden: what is held, one higher than its number.
 
 held_gone : (m : MultiPortGraph) (held p : ℕ) → held ≡ suc p → is_seen (seen m p) ≡ false → held_seen m held ≡ false
-held_gone m held p e s = ap (held_seen m) e ∙ rw (ne_eqb (suc p) 0 (λ z. omega arith), less p) s
+held_gone m held p e s = ap (held_seen m) e ∙ rw (ne_eqb (suc p) 0 (λ z. omega arith), one_less p) s
 
 node_gone : (m : MultiPortGraph) (held n : ℕ) → held ≡ suc n → is_block m n ≡ false → node_held m held ≡ false
 unfolding node_held
-node_gone m held n e s = ap (node_held m) e ∙ rw (ne_eqb (suc n) 0 (λ z. omega arith), less n) s
+node_gone m held n e s = ap (node_held m) e ∙ rw (ne_eqb (suc n) 0 (λ z. omega arith), one_less n) s
 
 both_gone : (m : MultiPortGraph) (n held p : ℕ) → held ≡ suc p → is_seen (seen m p) ≡ false → both_seen m n held ≡ false
 both_gone m n held p e s = rw (held_gone m held p e s) (go (is_block m n))
@@ -79,7 +81,7 @@ module _ (m : MultiPortGraph) where
   -- The links of a port, either end: the port is not a block's any more.
 
   no_links_left : (c : PortLinks) → is_seen (seen m c.port.0) ≡ false → links_left m c ≡ []
-  unfolding links_left port_links filter
+  unfolding links_left port_links
   no_links_left c g = ap (filter (λ w. between c.front c.back w.from.subport_offset)) (go (seen m c.port.0) g)
     where
       go : (v : Port) → is_seen v ≡ false → port_links_seen m c.port.0 v ≡ []
@@ -149,7 +151,7 @@ module _ (m : MultiPortGraph) where
   unfolding step_wires
   wires_end c p e g =
       ap (λ (h : ℕ). cond (eqb h 0) (first_item (all_wires m)) (wires_seen m (h - 1) c.held.offset (seen m (h - 1)))) e
-      ∙ rw (ne_eqb (suc p) 0 (λ z. omega arith), less p) (go (seen m p) g)
+      ∙ rw (ne_eqb (suc p) 0 (λ z. omega arith), one_less p) (go (seen m p) g)
     where
       go : (v : Port) → is_seen v ≡ false → wires_seen m p c.held.offset v ≡ None
       go dead q = refl
@@ -198,7 +200,7 @@ module _ (m : MultiPortGraph) where
   unfolding step_nodes
   nodes_give c d n e =
       let r = first_found true None (λ k. Some (node# k, nodes_at (suc k) c.back)) (blocks_left m c) (Some (n, d)) e (λ z. zero_is_not_one (cc)) in
-      let p = some_pair r.2 in
+      let p = some_pair_parts _ _ _ _ r.2 in
       let q : node# r.0 ≡ n = p.0 in
       let s : nodes_at (suc r.0) c.back ≡ d = p.1 in
       let v : r.0 ≡ n.0 = ap (λ (k : NodeIndex). k.0) q in
@@ -210,7 +212,7 @@ module _ (m : MultiPortGraph) where
   unfolding step_nodes_back
   nodes_give_back c d n e =
       let r = last_found None (λ k. Some (node# k, nodes_at c.front (suc k))) (blocks_left m c) (Some (n, d)) e (λ z. zero_is_not_one (cc)) in
-      let p = some_pair r.2 in
+      let p = some_pair_parts _ _ _ _ r.2 in
       let q : node# r.0 ≡ n = p.0 in
       let s : nodes_at c.front (suc r.0) ≡ d = p.1 in
       let v : r.0 ≡ n.0 = ap (λ (k : NodeIndex). k.0) q in
@@ -229,7 +231,7 @@ module _ (m : MultiPortGraph) where
   unfolding step_all_ports
   ports_give c d p e =
       let r = first_found true None (λ k. Some (port# k, ports_at (suc k) c.back)) (ports_left m c) (Some (p, d)) e (λ z. zero_is_not_one (cc)) in
-      let o = some_pair r.2 in
+      let o = some_pair_parts _ _ _ _ r.2 in
       let q : port# r.0 ≡ p = o.0 in
       let s : ports_at (suc r.0) c.back ≡ d = o.1 in
       let v : r.0 ≡ p.0 = ap (λ (k : PortIndex). k.0) q in
@@ -241,7 +243,7 @@ module _ (m : MultiPortGraph) where
   unfolding step_all_ports_back
   ports_give_back c d p e =
       let r = last_found None (λ k. Some (port# k, ports_at c.front (suc k))) (ports_left m c) (Some (p, d)) e (λ z. zero_is_not_one (cc)) in
-      let o = some_pair r.2 in
+      let o = some_pair_parts _ _ _ _ r.2 in
       let q : port# r.0 ≡ p = o.0 in
       let s : ports_at c.front (suc r.0) ≡ d = o.1 in
       let v : r.0 ≡ p.0 = ap (λ (k : PortIndex). k.0) q in
@@ -257,7 +259,7 @@ module _ (m : MultiPortGraph) where
   unfolding step_front
   port_links_give c d w e =
       let r = first_found true None (λ v. Some (v, port_links_at c.port (suc (link_offset v)) c.back)) (links_left m c) (Some (w, d)) e (λ z. zero_is_not_one (cc)) in
-      let p = some_pair r.2 in
+      let p = some_pair_parts _ _ _ _ r.2 in
       let v : r.0 ≡ w = p.0 in
       let s : port_links_at c.port (suc (link_offset r.0)) c.back ≡ d = p.1 in
       let b = link_left c w (subst (λ (x : SubportLink). Member x (links_left m c)) v r.1) in
@@ -268,7 +270,7 @@ module _ (m : MultiPortGraph) where
   unfolding step_back
   port_links_give_back c d w e =
       let r = last_found None (λ v. Some (v, port_links_at c.port c.front (suc (link_offset v)))) (links_left m c) (Some (w, d)) e (λ z. zero_is_not_one (cc)) in
-      let p = some_pair r.2 in
+      let p = some_pair_parts _ _ _ _ r.2 in
       let v : r.0 ≡ w = p.0 in
       let s : port_links_at c.port c.front (suc (link_offset r.0)) ≡ d = p.1 in
       let b = link_left c w (subst (λ (x : SubportLink). Member x (links_left m c)) v r.1) in
@@ -281,7 +283,7 @@ module _ (m : MultiPortGraph) where
       let r =
       first_found (both_seen m c.node.0 c.held) None (λ k. Some (port# k, ports_held c k))
       (filter (leb c.held) (ports_of_node m c.node.0 c.sides)) (Some (p, d)) e (λ z. zero_is_not_one (cc)) in
-      let o = some_pair r.2 in
+      let o = some_pair_parts _ _ _ _ r.2 in
       let q : port# r.0 ≡ p = o.0 in
       let v : r.0 ≡ p.0 = ap (λ (k : PortIndex). k.0) q in
       let s : ports_held c r.0 ≡ d = o.1 in
@@ -296,7 +298,7 @@ module _ (m : MultiPortGraph) where
       let r =
       first_found (both_seen m c.node.0 c.held.port) None (λ t. Some (t, subport_held c t))
       (filter (subport_beyond c.held.port c.held.offset) (subports_of m c.node.0 c.sides)) (Some (s, d)) e (λ z. zero_is_not_one (cc)) in
-      let o = some_pair r.2 in
+      let o = some_pair_parts _ _ _ _ r.2 in
       let v : r.0 ≡ s = o.0 in
       let h : subport_held c r.0 ≡ d = o.1 in
       let b = member_filter (subport_beyond c.held.port c.held.offset) s (subports_of m c.node.0 c.sides) (subst (λ (t : SubportIndex). Member t (filter (subport_beyond c.held.port c.held.offset) (subports_of m c.node.0 c.sides))) v r.1) in
@@ -310,7 +312,7 @@ module _ (m : MultiPortGraph) where
       first_found (both_seen m c.node.0 c.held.port) None (links_item c)
       (filter (link_beyond c.held.port c.held.offset) (node_links m c.node.0 c.sides c.skip.from c.skip.to)) (Some (w, d)) e (λ z. zero_is_not_one (cc)) in
       let o = r.2 in
-      let v : r.0 ≡ w = (some_pair r.2).0 in
+      let v : r.0 ≡ w = (some_pair_parts _ _ _ _ r.2).0 in
       let b = member_filter (link_beyond c.held.port c.held.offset) w (node_links m c.node.0 c.sides c.skip.from c.skip.to)
       (subst (λ (x : SubportLink). Member x (filter (link_beyond c.held.port c.held.offset) (node_links m c.node.0 c.sides c.skip.from c.skip.to))) v r.1) in
       (b.0, b.1, sym o ∙ ap (links_item c) v)
@@ -340,7 +342,7 @@ module _ (m : MultiPortGraph) where
           first_found (both_seen m c.node.0 c.held.port) None (connections_item c)
           (filter (link_beyond c.held.port c.held.offset) (connections m c.node.0 c.target.0)) (Some (w, d)) e (λ z. zero_is_not_one (cc)) in
           let o = r.2 in
-          let v : r.0 ≡ w = (some_pair r.2).0 in
+          let v : r.0 ≡ w = (some_pair_parts _ _ _ _ r.2).0 in
           let b = member_filter (link_beyond c.held.port c.held.offset) w (connections m c.node.0 c.target.0)
           (subst (λ (x : SubportLink). Member x (filter (link_beyond c.held.port c.held.offset) (connections m c.node.0 c.target.0))) v r.1) in
           (b.0, b.1, sym o ∙ ap (connections_item c) v)

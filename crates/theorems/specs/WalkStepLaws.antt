@@ -3,24 +3,25 @@
 use Rattle.std.specs.Prelude.{◌≡◌, refl, Bool, true, false, cond, eqb, leb, ltb, Option, Some, None, Result, Ok, Err}
 use Rattle.std.proofs.Common.{sym, ◌∙◌, arith, lt-ltb, le-ltb, le-leb, ne_eqb, ltb-true, leb-true, eqb-true}
 use Rattle.std.proofs.Math.Path.{ap}
-use mathlib.Core.List.{List, [], ◌∷◌, map}
-use Prim.Native.Nat.{ℕ, suc, ◌-◌, ◌≤◌, ◌<◌}
+use mathlib.Core.List.{List, [], ◌∷◌, map, map-id}
+use Prim.Native.Nat.{ℕ, suc, ◌≤◌, ◌<◌}
 use Rattle.std.proofs.Math.ListN.{length}
 use Rattle.std.proofs.lemmas.Bool.{lt-leb, eqb-false}
 use Rattle.port_tables.specs.Limits.{port_slots, node_slots}
-use Rattle.port_tables.specs.Lists.{range, filter, on_first, on_last, Member, Rising}
+use Rattle.port_tables.specs.Lists.{range, on_first, on_last, Member, Rising}
+use Rattle.std.specs.List.{filter}
 use Rattle.port_tables.specs.Entries.{node#, port#}
 use Rattle.portgraph.specs.GoodSlots.{zero_is_not_one}
-use Rattle.portgraph.specs.WalkLaws.{whole}
+use Rattle.portgraph.specs.WalkLaws.{whole, one_less}
 use Rattle.port_tables.specs.declared.index.PortIndex.{PortIndex}
 use Rattle.port_tables.specs.declared.direction.Direction.{Direction}
 use Rattle.multiportgraph.specs.Reading.{is_split, seen, subports, end_at, link_of_end}
 use Rattle.multi_tables.specs.Forms.{Port, dead, hidden, visible, subport#, wire_to}
 use Rattle.multiportgraph.specs.Wires.{is_block, blocks, subports_of_port, wire_of}
 use Rattle.multiportgraph.specs.Walks.{Start, started, refused, is_seen, held_seen, between, node_held, blocks_left, step_nodes, step_nodes_back, all_ports, ports_left, step_all_ports, step_all_ports_back, port_links_seen, port_links, links_left, step_front, step_back, start_at_port, port_links_from, start_port_links}
-use Rattle.port_tables.specs.Listing.{Apart, member_filter, filter_all, rising_filter, rising_flat_map, rising_map, range_rises}
+use Rattle.port_tables.specs.Listing.{Apart, member_filter, filter_all, rising_filter, rising_flat_map, rising_map, range_rises, rising_apart}
 use Rattle.multiportgraph.specs.ScanLaws.{wire_stands}
-use Rattle.theorems.specs.Cursors.{Turns, turns, rising_apart, Stepped, item, end, walk, From, walk_ends, take_ends, backwards, Listed, Fronts, Backs, walk_front, walk_back, walk_ends_lem, first_map, last_map, map_same, walk_nothing, ends_nothing}
+use Rattle.theorems.specs.Cursors.{Turns, turns, Stepped, item, end, walk, From, walk_ends, take_ends, backwards, Listed, Fronts, Backs, walk_front, walk_back, walk_ends_lem, first_map, last_map, walk_nothing, ends_nothing}
 use Rattle.multiportgraph.specs.declared.multiportgraph.MultiPortGraph.{MultiPortGraph}
 use Rattle.multi_tables.specs.declared.answers.SubportIndex.{SubportIndex}
 use Rattle.multi_tables.specs.declared.answers.SubportLink.{SubportLink}
@@ -30,6 +31,7 @@ use Rattle.multiportgraph.specs.declared.iter.PortLinks.{PortLinks}
 use Rattle.port_tables.specs.declared.index.NodeIndex.{NodeIndex}
 use Rattle.multi_tables.specs.declared.answers.Refusal.{Refusal}
 use Rattle.multi_tables.specs.declared.answers.PortPlace.{PortPlace}
+use Rattle.multiportgraph.specs.WalkRule.{blocks_rise}
 
 -- The steps, in one form.
 
@@ -170,28 +172,25 @@ module _ {A C : Type 0} {key : A → ℕ} {l : List A} {held : ℕ → Bool} {cu
   two_front : (fuel f b : ℕ) → length (left_between key l held f b) < fuel → walk step fuel (cursor f b) ≡ whole (left_between key l held f b)
   two_front fuel f b =
       by_held f b (λ v. length v < fuel → walk step fuel (cursor f b) ≡ whole v)
-      (λ p q h. walk_front by_number fronts fuel (f, b) (p, q) h ∙ ap whole (map_same (filter (λ x. between f b (key x)) l)))
+      (λ p q h. walk_front by_number fronts fuel (f, b) (p, q) h ∙ ap whole (map-id (filter (λ x. between f b (key x)) l)))
       (λ e h. walk_nothing step fuel (cursor f b) h (step_ends f b e))
 
   two_back : (fuel f b : ℕ) → length (left_between key l held f b) < fuel → walk step_back fuel (cursor f b) ≡ whole (backwards (left_between key l held f b))
   unfolding backwards
   two_back fuel f b =
       by_held f b (λ v. length v < fuel → walk step_back fuel (cursor f b) ≡ whole (backwards v))
-      (λ p q h. walk_back by_number backs fuel (f, b) (p, q) h ∙ ap (λ (v : List A). whole (backwards v)) (map_same (filter (λ x. between f b (key x)) l)))
+      (λ p q h. walk_back by_number backs fuel (f, b) (p, q) h ∙ ap (λ (v : List A). whole (backwards v)) (map-id (filter (λ x. between f b (key x)) l)))
       (λ e h. walk_nothing step_back fuel (cursor f b) h (step_back_ends f b e))
 
   two_ends : (choices : List From) (f b : ℕ) → walk_ends step step_back choices (cursor f b) ≡ take_ends choices (left_between key l held f b)
   two_ends choices f b =
       by_held f b (λ v. walk_ends step step_back choices (cursor f b) ≡ take_ends choices v)
-      (λ p q. walk_ends_lem by_number fronts backs choices (f, b) (p, q) ∙ ap (take_ends choices) (map_same (filter (λ x. between f b (key x)) l)))
+      (λ p q. walk_ends_lem by_number fronts backs choices (f, b) (p, q) ∙ ap (take_ends choices) (map-id (filter (λ x. between f b (key x)) l)))
       (λ e. ends_nothing step step_back choices (cursor f b) (step_ends f b e) (step_back_ends f b e))
 
 -- nothing given yet leaves everything
 between_all : {A : Type 0} (key : A → ℕ) (l : List A) → filter (λ x. between 0 0 (key x)) l ≡ l
 between_all key l = filter_all (λ x. between 0 0 (key x)) l (λ x i. true_between 0 0 (key x) (omega arith) (λ z. absurd (z refl)))
-
-pub less : (n : ℕ) → suc n - 1 ≡ n
-less n = omega arith
 
 -- The blocks of any graph.
 
@@ -202,19 +201,15 @@ abbrev pub start_nodes : Nodes
 start_nodes = nodes_at 0 0
 
 module _ (m : MultiPortGraph) where
-  pub nodes_rise : Rising ◌<◌ (blocks m)
-  unfolding blocks
-  nodes_rise = rising_filter ◌<◌ (is_block m) (range 0 node_slots) (range_rises 0 node_slots)
-
   node_stays : (n : ℕ) → Member n (blocks m) → node_held m (suc n) ≡ true
   unfolding node_held blocks
-  node_stays n i = rw (ne_eqb (suc n) 0 (λ e. omega arith), less n) (member_filter (is_block m) n (range 0 node_slots) i).1
+  node_stays n i = rw (ne_eqb (suc n) 0 (λ e. omega arith), one_less n) (member_filter (is_block m) n (range 0 node_slots) i).1
 
   nodes_walk : TwoEnded (λ n. n) (blocks m) (node_held m) nodes_at (by_nodes m) (by_nodes_back m)
   unfolding step_nodes step_nodes_back blocks_left
   nodes_walk =
       record {
-        rises = nodes_rise;
+        rises = blocks_rise m;
         stays = node_stays;
         is = λ f b. first_map nodes_given None (λ n. Some (node# n, nodes_at (suc n) b)) (blocks_left m (nodes_at f b));
         is_back = λ f b. last_map nodes_given None (λ n. Some (node# n, nodes_at f (suc n))) (blocks_left m (nodes_at f b));
@@ -248,7 +243,7 @@ abbrev pub start_ports : Ports
 start_ports = ports_at 0 0
 
 pub seen_stays : (m : MultiPortGraph) (p : ℕ) → is_seen (seen m p) ≡ true → held_seen m (suc p) ≡ true
-seen_stays m p h = rw (ne_eqb (suc p) 0 (λ e. omega arith), less p) h
+seen_stays m p h = rw (ne_eqb (suc p) 0 (λ e. omega arith), one_less p) h
 
 module _ (m : MultiPortGraph) where
   pub ports_rise : Rising ◌<◌ (all_ports m)
@@ -374,7 +369,7 @@ module _ (m : MultiPortGraph) where
   nodes_whole_back fuel h = let q = nodes_at_start m in rw q at (nodes_backward m start_nodes fuel (rw q h))
 
   pub nodes_turns : Turns (blocks m) (λ choices. walk_ends (by_nodes m) (by_nodes_back m) choices start_nodes)
-  nodes_turns = turns (rises_apart (λ n. n) (blocks m) (nodes_rise m)) (λ choices. nodes_by_turns m choices start_nodes ∙ ap (take_ends choices) (nodes_at_start m))
+  nodes_turns = turns (rises_apart (λ n. n) (blocks m) (blocks_rise m)) (λ choices. nodes_by_turns m choices start_nodes ∙ ap (take_ends choices) (nodes_at_start m))
 
   pub ports_whole : (fuel : ℕ) → length (all_ports m) < fuel → walk (by_all_ports m) fuel start_ports ≡ whole (all_ports m)
   ports_whole fuel h = let q = ports_at_start m in rw q at (ports_forward m start_ports fuel (rw q h))

@@ -19,20 +19,19 @@ use Rattle.port_tables.specs.Lists.{Member, Rising, range}
 use Rattle.portgraph.specs.Model.{Model}
 use Rattle.multiportgraph.specs.Calls.{visible_nodes, visible_links}
 use Rattle.multiportgraph.specs.CountLaws.{visible_nodes_lem}
-use Rattle.multiportgraph.specs.WellFormed.{Fine}
+use Rattle.multiportgraph.specs.WellFormed.{Fine, MultiWf}
 use Rattle.multiportgraph.specs.HiddenStays.{true_not_false}
-use Rattle.port_tables.specs.Listing.{Apart}
+use Rattle.port_tables.specs.Listing.{Apart, numbers_apart}
 use Rattle.multiportgraph.specs.Listed.{wires_listed, blocks_listed, list_after}
 use Rattle.multiportgraph.specs.Lookups.{counted, capacity_of}
 use Rattle.multiportgraph.specs.Walks.{Start, started, refused, start_at_node}
 use Rattle.multiportgraph.specs.Wires.{blocks}
 use Rattle.multiportgraph.specs.declared.multiportgraph.MultiPortGraph.{MultiPortGraph}
 use Rattle.multi_tables.specs.declared.answers.Refusal.{Refusal}
-use Rattle.theorems.proofs.PortListing.{blocks_list, rising_apart}
+use Rattle.theorems.proofs.PortListing.{blocks_list}
 use Rattle.theorems.proofs.StartLaws.{start_at_node_starts}
 use Rattle.files.specs.Forms.{node_listed, nodes_of, blocks_in}
-use Rattle.files.specs.RankLaws.{blocks_rise}
-use Rattle.files.specs.SaveSteps.{listing_taken, listed_blocks, listed_wires, nodes_are}
+use Rattle.files.specs.SaveSteps.{listing_taken, listed_wires, nodes_are}
 use Rattle.timing.specs.Longest.{Feed, feeds_in, feeders, longest_among, longest_timed, longest_from, longest_of, longest_numbers}
 use Rattle.timing.specs.Settling.{feed_at, feeds_listed, Tables, zeros, settled, sum_at, path_back, path_among}
 use Rattle.timing.specs.RunOrder.{run_order}
@@ -46,6 +45,7 @@ use Rattle.timing.specs.FeedLaws.{feeds_listed_lem, feeders_between, block_below
 use Rattle.timing.specs.declared.answers.LongestError.{LongestError}
 use Rattle.timing.specs.declared.answers.LongestError.TheVariants.{Refused, BadTimes}
 use Rattle.timing.specs.declared.answers.PathListed.{PathListed}
+use Rattle.multiportgraph.specs.WalkRule.{blocks_rise}
 
 -- a refusal that comes through a `?`
 pub refused_told : {T : Type 0} {r : Refusal} (a : Result T LongestError) → IsErrAnd a (λ told. told ≡ Refused r) → a ≡ Err (Refused r)
@@ -76,25 +76,13 @@ module _ (feeds : List Feed) (times : List ℕ) (n : ℕ) where
 
 -- The listing of a graph's wires.
 
+pub wires_there : {m : MultiPortGraph} → MultiWf m → (list₀ : List ℕ) {list : List ℕ} {wires : ℕ} → wires ≡ visible_links m → length list₀ ≡ 4 * port_slots → list ≡ list_after (wires_listed m) list₀ → take (8 * wires) list ≡ wires_listed m
+wires_there {m} wf list₀ {wires = wires} e l q =
+    let r = listed_wires wf.fine wires e in
+    let h = r.1 in
+    ap (take (8 * wires)) q ∙ listing_taken (wires_listed m) list₀ (8 * wires) r.0 (omega arith)
+
 module _ {m : MultiPortGraph} {M : Model} (f : Fine m M) where
-  pub wires_short : {wires : ℕ} → wires ≡ visible_links m → 8 * wires ≤ 4 * port_slots
-  wires_short e = let r = listed_wires f _ e in let a = r.0 in let b = r.1 in omega arith
-
-  pub wires_there : (list₀ : List ℕ) {wires : ℕ} {list : List ℕ} → wires ≡ visible_links m → length list₀ ≡ 4 * port_slots → list ≡ list_after (wires_listed m) list₀ → take (8 * wires) list ≡ wires_listed m
-  wires_there list₀ {wires} {list} e l q =
-      let r = listed_wires f wires e in
-      let h = r.1 in
-      ap (take (8 * wires)) q ∙ listing_taken (wires_listed m) list₀ (8 * wires) r.0 (omega arith)
-
-  pub blocks_short : {n : ℕ} → n ≡ visible_nodes m → 4 * n ≤ 4 * node_slots
-  blocks_short e = let r = listed_blocks f _ e in let a = r.0 in let b = r.1 in omega arith
-
-  pub blocks_there : (list₀ : List ℕ) {n : ℕ} {list : List ℕ} → n ≡ visible_nodes m → length list₀ ≡ 4 * node_slots → list ≡ list_after (blocks_listed m) list₀ → take (4 * n) list ≡ blocks_listed m
-  blocks_there list₀ {n} {list} e l q =
-      let r = listed_blocks f n e in
-      let h = r.1 in
-      ap (take (4 * n)) q ∙ listing_taken (blocks_listed m) list₀ (4 * n) r.0 (omega arith)
-
   -- the answer over the listing is that over the graph
   pub among_listed : (times : List ℕ) (n : ℕ) {ends : List ℕ} → ends ≡ wires_listed m → longest_among (feeds_listed ends) times n ≡ longest_among (feeds_in m) times n
   among_listed times n e = ap (λ (l : List Feed). longest_among l times n) (ap feeds_listed e ∙ feeds_listed_lem f)
@@ -264,7 +252,7 @@ module _ {m : MultiPortGraph} {M : Model} (f : Fine m M) (order : List ℕ) wher
       go false e = refl
 
   once : Rising Apart (blocks m)
-  once = rising_apart (blocks m) (blocks_rise m)
+  once = numbers_apart (blocks m) (blocks_rise m)
 
   in_table : (n : ℕ) → Member n (blocks m) → n < length zeros
   in_table n i = let h = block_below f n i in let e = zeros_long in omega arith

@@ -12,7 +12,7 @@ use Rattle.port_tables.specs.Lists.{Member, Rising, range}
 use Rattle.portgraph.specs.Model.{Model}
 use Rattle.multiportgraph.specs.WellFormed.{Fine}
 use Rattle.multiportgraph.specs.Listed.{end_numbers, wire_numbers, wires_listed}
-use Rattle.multiportgraph.specs.ListReads.{wires_length}
+use Rattle.multiportgraph.specs.ListReads.{wires_length, wire_length}
 use Rattle.port_tables.specs.Listing.{member_map, rising_map, member_filter, member_range}
 use Rattle.multiportgraph.specs.WalkRule.{Earlier, walked_rises}
 use Rattle.multiportgraph.specs.Wires.{is_block, blocks, all_wires, wires_walked, wire_places}
@@ -28,10 +28,6 @@ module _ (m : MultiPortGraph) where
   abbrev feed_of_link : SubportLink → Feed
   feed_of_link w = feed_of (wire_places m w)
 
-  wire_eight : (w : SubportLink) → length (wire_numbers m w) ≡ 8
-  unfolding wire_numbers end_numbers
-  wire_eight w = refl
-
   feed_read : (w : SubportLink) (rest : List ℕ) → (get_or (wire_numbers m w ++ rest) 2 0 ≡ (feed_of_link w).source) × (get_or (wire_numbers m w ++ rest) 6 0 ≡ (feed_of_link w).target)
   unfolding wire_numbers end_numbers
   feed_read w rest = (refl, refl)
@@ -43,7 +39,7 @@ module _ (m : MultiPortGraph) where
       let rest = flat_map (wire_numbers m) l in
       let a = append_assoc before (wire_numbers m w) rest in
       let n = length-append before (wire_numbers m w) in
-      let k = wire_eight w in
+      let k = wire_length m w in
       let r = feeds_from l (before ++ wire_numbers m w) (suc i) (omega arith) in
       let x : 8 * i + 2 ≡ length before + 2 = omega arith in
       let y : 8 * i + 6 ≡ length before + 6 = omega arith in

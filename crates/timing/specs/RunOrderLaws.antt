@@ -5,8 +5,10 @@ use Rattle.std.specs.Prelude.{◌≡◌, refl, Bool, true, false, cond, not, ◌
 use Rattle.std.proofs.Common.{sym, ap, ◌∙◌, subst, inl, inr, ⊎_elim, arith, length-set, get_or-set_same, get_or-set_other}
 use Rattle.std.proofs.Math.Dec.{ltb}
 use Rattle.std.proofs.Math.ListN.{get_or-eq_default}
+use Rattle.std.proofs.lemmas.Bool.{cases_eq}
 use borrow.Author.Tests.{eqb-true, eq-eqb, ltb-true, ltb-false, lt-ltb, not-true}
-use Rattle.port_tables.specs.Lists.{Member, Rising, Once, filter}
+use Rattle.port_tables.specs.Lists.{Member, Rising, Once}
+use Rattle.std.specs.List.{filter}
 use Rattle.multiportgraph.specs.HiddenStays.{true_not_false}
 use Rattle.port_tables.specs.Listing.{Apart, filter_member, partners}
 use Rattle.files.specs.LaidLaws.{both_true}
@@ -19,7 +21,7 @@ use Rattle.timing.specs.RunOrder.{is_in, is_distinct, is_before, run_order}
 use Rattle.timing.specs.Naming.{marked, Named, named, all_forward}
 use Rattle.timing.specs.TimingClaims.{Leads, CycleReaches, Before, RightOrder}
 use Rattle.timing.specs.WalkLaws.{member_or_not}
-use Rattle.timing.specs.SettleLaws.{feed#, in_member, member_in, same_or_not, feeders_member, member_feeders, InOrder}
+use Rattle.timing.specs.SettleLaws.{feed#, in_member, member_in, feeders_member, member_feeders, InOrder}
 
 -- Tests.
 
@@ -86,7 +88,6 @@ before_itself (n ∷ l) a o (inl h) = o.0 (subst (λ (x : ℕ). Member x l) h.0 
 before_itself (n ∷ l) a o (inr h) = before_itself l a o.1 h
 
 pub before_filter : (t : ℕ → Bool) (l : List ℕ) (a b : ℕ) → Before l a b → t a ≡ true → t b ≡ true → Before (filter t l) a b
-unfolding filter
 before_filter t [] a b never e f = absurd never
 before_filter t (n ∷ l) a b (inl h) e f = rw (ap t (sym h.0) ∙ e) (inl (h.0, filter_member t b l h.1 f))
 before_filter t (n ∷ l) a b (inr h) e f = go (t n) (before_filter t l a b h e f)
@@ -136,7 +137,7 @@ named_each places i (k ∷ l) e n m = go (eqb (get_or places k 0) 1) refl e m (n
     go : (b : Bool) → eqb (get_or places k 0) 1 ≡ b → (cond b (named (set places k (i + 2)) (suc i) l) (record { places = places; right = false })).right ≡ true → (n ≡ k) ⊎ Member n l →
         ((named (set places k (i + 2)) (suc i) l).right ≡ true → (n : ℕ) → Member n l → get_or (set places k (i + 2)) n 0 ≡ 1) → get_or places n 0 ≡ 1
     go true h r (inl p) rest = ap (λ (x : ℕ). get_or places x 0) p ∙ eqb-true (get_or places k 0) 1 h
-    go true h r (inr j) rest = ⊎_elim (λ p. ap (λ (x : ℕ). get_or places x 0) p ∙ eqb-true (get_or places k 0) 1 h) (λ d. sym (get_or-set_other places k n (i + 2) 0 d) ∙ rest r n j) (same_or_not n k)
+    go true h r (inr j) rest = ⊎_elim (λ p. ap (λ (x : ℕ). get_or places x 0) p ∙ eqb-true (get_or places k 0) 1 h) (λ d. sym (get_or-set_other places k n (i + 2) 0 d) ∙ rest r n j) (cases_eq n k)
     go false h r m rest = absurd (true_not_false r refl)
 
 -- what holds of the first number and the rest

@@ -11,7 +11,8 @@ use native.Mathlib.Omega.{arith}
 use Rattle.std.proofs.Math.Dec.{leb}
 use Rattle.std.proofs.Math.ListN.{length, get_or, length-append, length-set}
 use Rattle.std.proofs.Math.Seq.{get_or-set_same, get_or-set_other, get_or_at}
-use borrow.Author.Tests.{eqb-true, eqb-false, eq-eqb, ne_eqb, lt-ltb, le-ltb, leb-true, leb-false}
+use Rattle.std.proofs.lemmas.Bool.{cases_eq}
+use borrow.Author.Tests.{eqb-true, eq-eqb, ne_eqb, lt-ltb, le-ltb, leb-true, leb-false}
 use Rattle.port_tables.specs.Limits.{node_slots}
 use Rattle.port_tables.specs.Lists.{Member, Rising}
 use Rattle.port_tables.specs.Places.{flag}
@@ -192,13 +193,6 @@ in_order_comes feeds seen (n ∷ l) o h p i =
     next q (inl e) = subst (λ (k : ℕ). comes feeds (suc (length seen)) k ≡ false) (sym e) (none_any (comes feeds (length seen)) (feeders feeds n) (λ r j. h r (o.0 r j)))
     next q (inr j) = more q (h q j)
 
-pub same_or_not : (n c : ℕ) → (n ≡ c) ⊎ (n ≡ c → ⊥)
-same_or_not n c = go (eqb n c) refl
-  where
-    go : (a : Bool) → eqb n c ≡ a → (n ≡ c) ⊎ (n ≡ c → ⊥)
-    go true e = inl (eqb-true n c e)
-    go false e = inr (eqb-false n c e)
-
 -- What holds while blocks are settled.
 
 module _ (feeds : List Feed) (time : ℕ → ℕ) where
@@ -331,7 +325,7 @@ module _ (feeds : List Feed) (time : ℕ → ℕ) where
     at_waits = let e = s.long_waits in omega arith
 
     best_more : (n : ℕ) → get_or t.best n 0 ≤ get_or after.best n 0
-    best_more n = ⊎_elim (λ e. subst (λ (k : ℕ). get_or t.best k 0 ≤ get_or after.best k 0) (sym e) here) (λ h. let e = best_other b v c t n h in omega arith) (same_or_not n c)
+    best_more n = ⊎_elim (λ e. subst (λ (k : ℕ). get_or t.best k 0 ≤ get_or after.best k 0) (sym e) here) (λ h. let e = best_other b v c t n h in omega arith) (cases_eq n c)
       where
         here : get_or t.best c 0 ≤ get_or after.best c 0
         here = ⊎_elim (λ h. let e = h.0 in let k = h.1 in omega arith) (λ h. let e = h.0 in omega arith) (there b v c t at_best at_origin)
@@ -343,7 +337,7 @@ module _ (feeds : List Feed) (time : ℕ → ℕ) where
     sum_stays = let e = best_done b inDone in omega arith
 
     waits_after : (n : ℕ) → n < node_slots → get_or after.waits n 0 ≡ into n left + waiting done n feeds
-    waits_after n h = ⊎_elim there_is (λ k. let e = waits_other b v c t n k in let w = s.waits n h in let z = into_other n k in omega arith) (same_or_not n c)
+    waits_after n h = ⊎_elim there_is (λ k. let e = waits_other b v c t n k in let w = s.waits n h in let z = into_other n k in omega arith) (cases_eq n c)
       where
         here : get_or after.waits c 0 ≡ into c left + waiting done c feeds
         here = let e = waits_there b v c t at_waits in let w = s.waits c below in let z = into_here in omega arith
@@ -365,7 +359,7 @@ module _ (feeds : List Feed) (time : ℕ → ℕ) where
         go (inr k) = let e = best_done p j in let h = best_more n in inr (omega arith)
 
     from_after : (n p : ℕ) → get_or after.origin n 0 ≡ suc p → Member p done × Member p (feeders feeds n) × (get_or after.best n 0 ≡ time p + get_or after.best p 0)
-    from_after n p e = ⊎_elim here (λ h. old n (sym (origin_other b v c t n h) ∙ e) (best_other b v c t n h)) (same_or_not n c)
+    from_after n p e = ⊎_elim here (λ h. old n (sym (origin_other b v c t n h) ∙ e) (best_other b v c t n h)) (cases_eq n c)
       where
         old : (n : ℕ) → get_or t.origin n 0 ≡ suc p → get_or after.best n 0 ≡ get_or t.best n 0 → Member p done × Member p (feeders feeds n) × (get_or after.best n 0 ≡ time p + get_or after.best p 0)
         old n q k = let r = s.comes_from n p q in let x = r.2 in let y = best_done p r.0 in (r.0, r.1, omega arith)
@@ -384,7 +378,7 @@ module _ (feeds : List Feed) (time : ℕ → ℕ) where
         here q = subst (λ (k : ℕ). Member p done × Member p (feeders feeds k) × (get_or after.best k 0 ≡ time p + get_or after.best p 0)) (sym q) (there_is (subst (λ (k : ℕ). get_or after.origin k 0 ≡ suc p) q e))
 
     none_after : (n : ℕ) → get_or after.origin n 0 ≡ 0 → get_or after.best n 0 ≡ 0
-    none_after n e = ⊎_elim here (λ h. best_other b v c t n h ∙ s.from_none n (sym (origin_other b v c t n h) ∙ e)) (same_or_not n c)
+    none_after n e = ⊎_elim here (λ h. best_other b v c t n h ∙ s.from_none n (sym (origin_other b v c t n h) ∙ e)) (cases_eq n c)
       where
         there_is : get_or after.origin c 0 ≡ 0 → get_or after.best c 0 ≡ 0
         there_is q = ⊎_elim (λ h. let y = h.2 in absurd (omega arith)) (λ h. h.0 ∙ s.from_none c (sym h.2 ∙ q)) (there b v c t at_best at_origin)
@@ -407,14 +401,14 @@ module _ (feeds : List Feed) (time : ℕ → ℕ) where
     ready_other n h e k = s.ready n h (sym (waits_other b v c t n k) ∙ e)
 
     ordered : Ordered
-    ordered = ⊎_elim last stays (same_or_not (get_or t.waits c 0 - 1) 0)
+    ordered = ⊎_elim last stays (cases_eq (get_or t.waits c 0 - 1) 0)
       where
         last : get_or t.waits c 0 - 1 ≡ 0 → Ordered
         last z =
             let o = order_last b v c t z room in
             let w = waits_there b v c t at_waits in
             record {
-              ready = λ n h e. subst (Member n) (sym o) (⊎_elim (λ q. member_right n t.order (c ∷ []) (inl q)) (λ k. member_left n t.order (c ∷ []) (ready_other n h e k)) (same_or_not n c));
+              ready = λ n h e. subst (Member n) (sym o) (⊎_elim (λ q. member_right n t.order (c ∷ []) (inl q)) (λ k. member_left n t.order (c ∷ []) (ready_other n h e k)) (cases_eq n c));
               only = λ n i. ⊎_elim (waits_settled n) (λ j. ⊎_elim (λ q. subst (λ (k : ℕ). (k < node_slots) × (get_or after.waits k 0 ≡ 0)) (sym q) (below, w ∙ z)) (λ k. absurd k) j)
                   (member_append n t.order (c ∷ []) (subst (Member n) o i));
               once = subst (Rising Apart) (sym o) once_more;

@@ -8,13 +8,13 @@ use Prim.Native.Nat.{ℕ, zero, suc, ◌+◌, ◌-◌, ◌*◌, ◌/◌, ◌≤�
 use native.Mathlib.Omega.{arith}
 use Rattle.std.proofs.Math.ListN.{get_or, set, get_or-map}
 use Rattle.std.proofs.Math.Seq.{length-take-le, get_or-take}
+use Rattle.std.proofs.lemmas.Bool.{cases_eq}
 use borrow.Author.Tests.{eq-eqb, ne_eqb, lt-ltb, le-ltb}
 use Rattle.port_tables.specs.Limits.{node_slots}
 use Rattle.port_tables.specs.Lists.{range}
 use Rattle.port_tables.specs.Listing.{length_map, length_range}
 use Rattle.timing.specs.Longest.{Feed, time_in}
 use Rattle.timing.specs.Settling.{feed_at, feeds_listed, Tables, zeros, waits_of, firsts_of, unsettled, with_order, pushed, push_ready, raised, wire_done, run_done, block_done, start_tables, settle, settled, Bounded}
-use Rattle.timing.specs.SettleLaws.{same_or_not}
 use Rattle.timing.specs.StartLaws.{zeros_read}
 
 -- A listing, wire by wire.
@@ -67,7 +67,7 @@ unfolding waits_of
 counting_turns {ends} {waits} {waits'} {i} {t} {b} c h p q e =
     record {
       inside = omega arith;
-      small = λ n. subst (λ (l : List ℕ). get_or l n 0 ≤ i + 1) (sym e) (go n (same_or_not n t));
+      small = λ n. subst (λ (l : List ℕ). get_or l n 0 ≤ i + 1) (sym e) (go n (cases_eq n t));
       rest =
           ap (waits_of (drop (i + 1) (feeds_listed ends))) (e ∙ (λ j. set waits (p j) ((q ∙ ap (λ (k : ℕ). get_or waits k 0) p) j + 1)))
           ∙ (ap (λ (l : List Feed). waits_of l (set waits (get_or ends (8 * i + 6) 0) (get_or waits (get_or ends (8 * i + 6) 0) 0 + 1))) (sym (feed_one_more ends i))

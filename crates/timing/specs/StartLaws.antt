@@ -1,39 +1,35 @@
 -- Laws of the tables that settling begins with: the wires into each block are counted, the first wire out of each is found, and what holds
 -- of settling holds at the start.
-use Rattle.std.specs.Prelude.{◌≡◌, Bool, true, false, ◌&&◌, ◌⊎◌, eqb, ltb, length, set, drop, replicate, Ok, Err}
+use Rattle.std.specs.Prelude.{◌≡◌, Bool, true, false, ◌&&◌, ◌⊎◌, eqb, ltb, length, set, drop, Ok, Err}
 use Rattle.std.proofs.Math.Path.{refl, subst}
 use Rattle.std.proofs.Common.{sym, ap, ◌∙◌, inl, inr, ⊎_elim, length-append, length-set, get_or-set_same, get_or-set_other}
 use Rattle.std.proofs.Math.Bool.{cond}
 use mathlib.Core.List.{List, [], ◌∷◌, ◌++◌, append_assoc, append-nil}
-use Prim.Native.Nat.{ℕ, zero, suc, ◌+◌, ◌≤◌, ◌<◌}
+use Prim.Native.Nat.{ℕ, suc, ◌+◌, ◌≤◌, ◌<◌}
 use native.Mathlib.Omega.{arith}
 use Rattle.std.proofs.Math.ListN.{get_or}
 use Rattle.std.proofs.lemmas.List.{length-replicate}
 use Rattle.std.proofs.Math.Seq.{drop-append_seam}
+use Rattle.std.proofs.lemmas.Bool.{cases_eq}
 use borrow.Author.Tests.{eqb-true, eqb-false, eq-eqb, ne_eqb, lt-ltb}
 use Rattle.port_tables.specs.Limits.{node_slots}
-use Rattle.port_tables.specs.Lists.{Member, Rising, range, filter}
+use Rattle.port_tables.specs.Lists.{Member, Rising, range}
+use Rattle.std.specs.List.{filter}
 use Rattle.port_tables.specs.Places.{flag}
-use Rattle.port_tables.specs.Listing.{Apart, member_filter, filter_member, rising_filter, range_rises, member_range, range_member, length_range}
-use Rattle.theorems.proofs.PortListing.{rising_apart}
+use Rattle.port_tables.specs.Listing.{Apart, member_filter, filter_member, rising_filter, range_rises, member_range, range_member, length_range, get_or-replicate_default, numbers_apart}
 use Rattle.timing.specs.Longest.{Feed, feeders, comes, largest_sum, longest_among, time_in}
 use Rattle.timing.specs.RunOrder.{is_in}
 use Rattle.timing.specs.Settling.{Tables, zeros, waits_of, firsts_of, pushed, push_ready, start_tables, wire_done, run_done, settled}
-use Rattle.timing.specs.SettleLaws.{into, waiting, group, InOrder, Settling, Settled, waiting_none, member_feeders, same_or_not, settle_ends, settled_comes, unsettled_comes, settled_sum}
+use Rattle.timing.specs.SettleLaws.{into, waiting, group, InOrder, Settling, Settled, waiting_none, member_feeders, settle_ends, settled_comes, unsettled_comes, settled_sum}
 use Rattle.timing.specs.declared.answers.LongestError.TheVariants.{Cycle}
 
 pub zeros_long : length zeros ≡ node_slots
 unfolding zeros
 zeros_long = length-replicate {A = ℕ} node_slots 0
 
-zero_read : (k n : ℕ) → ◌≡◌ {A = ℕ} (get_or (replicate k 0) n 0) 0
-zero_read zero n = refl
-zero_read (suc k) zero = refl
-zero_read (suc k) (suc n) = zero_read k n
-
 pub zeros_read : (n : ℕ) → get_or zeros n 0 ≡ 0
 unfolding zeros
-zeros_read n = zero_read node_slots n
+zeros_read n = get_or-replicate_default node_slots n 0
 
 -- Wires into a block.
 
@@ -101,7 +97,7 @@ data Begins (b : ℕ) (l : List Feed) (i : ℕ) (w : List ℕ) : Type 0 where
 begins : (b : ℕ) (l : List Feed) (i : ℕ) (w : List ℕ) → b < length w → Begins b l i w
 unfolding firsts_of
 begins b [] i w h = absent (λ f k. absurd k) refl
-begins b (f ∷ l) i w h = go (same_or_not b f.source) (begins b l (suc i) w h)
+begins b (f ∷ l) i w h = go (cases_eq b f.source) (begins b l (suc i) w h)
   where
     inside : b < length (firsts_of l (suc i) w)
     inside = let e = firsts_length l (suc i) w in omega arith
@@ -152,7 +148,7 @@ grouped feeds r b v t h = go (begins b feeds 0 zeros (let e = zeros_long in omeg
 -- The start.
 
 push_ready_lem : (waits l order : List ℕ) → length order + length l ≤ node_slots → push_ready waits l order ≡ order ++ filter (λ n. eqb (get_or waits n 0) 0) l
-unfolding push_ready filter pushed
+unfolding push_ready pushed
 push_ready_lem waits [] order h = sym (append-nil order)
 push_ready_lem waits (n ∷ l) order h =
     go (eqb (get_or waits n 0) 0) (push_ready_lem waits l order (omega arith)) (push_ready_lem waits l (order ++ (n ∷ [])) (let e = length-append order (n ∷ []) in omega arith))
@@ -202,7 +198,7 @@ module _ (feeds : List Feed) (below : (p n : ℕ) → Member p (feeders feeds n)
         waits = λ n h. let e = counted n in omega arith;
         ready = λ n h e. subst (Member n) (sym starts_are) (filter_member is_ready n (range 0 node_slots) (range_member n 0 node_slots (omega arith) (omega arith)) (eq-eqb (get_or counts n 0) 0 e));
         only = starts_only;
-        once = subst (Rising Apart) (sym starts_are) (rising_apart (filter is_ready (range 0 node_slots)) (rising_filter ◌<◌ is_ready (range 0 node_slots) (range_rises 0 node_slots)));
+        once = subst (Rising Apart) (sym starts_are) (numbers_apart (filter is_ready (range 0 node_slots)) (rising_filter ◌<◌ is_ready (range 0 node_slots) (range_rises 0 node_slots)));
         first = ((start_tables feeds).order, refl);
         fed = in_order_none feeds [] (start_tables feeds).order (λ n p i j. waiting_none [] n feeds (sym (counted n) ∙ (starts_only n i).1) p j);
         above = λ p n i j. absurd j;
@@ -219,7 +215,7 @@ module _ (feeds : List Feed) (below : (p n : ℕ) → Member p (feeders feeds n)
     pub answer_settled : (n : ℕ) → n < node_slots →
         cond (eqb (get_or (settled feeds times).waits n 0) 0) (Ok (get_or (settled feeds times).best n 0 + time_in times n)) (Err Cycle) ≡ longest_among feeds times n
     unfolding longest_among
-    answer_settled n h = go (same_or_not (get_or (settled feeds times).waits n 0) 0)
+    answer_settled n h = go (cases_eq (get_or (settled feeds times).waits n 0) 0)
       where
         go : (get_or (settled feeds times).waits n 0 ≡ 0) ⊎ (get_or (settled feeds times).waits n 0 ≡ 0 → ⊥) →
             cond (eqb (get_or (settled feeds times).waits n 0) 0) (Ok (get_or (settled feeds times).best n 0 + time_in times n)) (Err Cycle) ≡ cond (comes feeds node_slots n) (Err Cycle) (Ok (largest_sum feeds (time_in times) node_slots n))

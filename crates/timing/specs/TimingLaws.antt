@@ -7,9 +7,11 @@ use native.Mathlib.Omega.{arith}
 use Rattle.std.proofs.Math.Dec.{eqb}
 use Rattle.std.proofs.Math.ListN.{length}
 use Rattle.std.proofs.Math.Seq.{set_out}
+use Rattle.std.proofs.lemmas.Bool.{cases_eq}
 use borrow.Author.Tests.{eqb-true, eq-eqb, ne_eqb, ltb-true, ltb-false}
 use Rattle.port_tables.specs.Limits.{node_slots}
-use Rattle.port_tables.specs.Lists.{Member, Rising, filter}
+use Rattle.port_tables.specs.Lists.{Member, Rising}
+use Rattle.std.specs.List.{filter}
 use Rattle.portgraph.specs.Model.{Model}
 use Rattle.multiportgraph.specs.HiddenStays.{true_not_false}
 use Rattle.multiportgraph.specs.WellFormed.{Fine}
@@ -27,7 +29,7 @@ use Rattle.timing.specs.Path.{path_of}
 use Rattle.timing.specs.TimingClaims.{Feeds, Leads, sum_along}
 use Rattle.timing.specs.WalkLaws.{Fed, member_or_not, walk_short, walk_apart, sum_above, sum_some}
 use Rattle.timing.specs.Settling.{settled, path_back, path_among}
-use Rattle.timing.specs.SettleLaws.{feed#, in_member, member_in, same_or_not, feeders_member, member_feeders, unsettled_comes, settled_sum, path_found}
+use Rattle.timing.specs.SettleLaws.{feed#, in_member, member_in, feeders_member, member_feeders, unsettled_comes, settled_sum, path_found}
 use Rattle.timing.specs.StartLaws.{all_settled}
 use Rattle.timing.specs.FeedLaws.{feeds_rise, feeders_below, feeders_between, block_below}
 use Rattle.timing.specs.RunOrderLaws.{apart_once, ordered_before, before_filter, right_run_order}
@@ -108,7 +110,7 @@ sum_same t u b same (n ∷ l) h = let e = same n (h n (inl refl)) in let r = sum
 -- a walk that passes it at most once has a sum that differs by no more
 sum_moves : (t u : ℕ → ℕ) (b by : ℕ) → ((k : ℕ) → (k ≡ b → ⊥) → u k ≡ t k) → u b ≤ t b + by → (l : List ℕ) → Rising Apart l → sum_along u l ≤ sum_along t l + by
 sum_moves t u b by same h [] r = omega arith
-sum_moves t u b by same h (n ∷ l) r = go (same_or_not n b) (sum_moves t u b by same h l r.1)
+sum_moves t u b by same h (n ∷ l) r = go (cases_eq n b) (sum_moves t u b by same h l r.1)
   where
     go : (n ≡ b) ⊎ (n ≡ b → ⊥) → sum_along u l ≤ sum_along t l + by → sum_along u (n ∷ l) ≤ sum_along t (n ∷ l) + by
     go (inl e) s =

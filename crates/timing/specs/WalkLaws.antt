@@ -8,7 +8,7 @@ use mathlib.Core.List.{List, [], ◌∷◌, ◌++◌}
 use Prim.Native.Nat.{ℕ, zero, suc, ◌+◌, ◌-◌, ◌≤◌, ◌<◌, max}
 use native.Mathlib.Omega.{arith}
 use Rattle.std.proofs.Math.ListN.{length, length-append}
-use Rattle.std.proofs.lemmas.Bool.{eqb-false}
+use Rattle.std.proofs.lemmas.Bool.{eqb-false, cases_lt}
 use Rattle.port_tables.specs.Lists.{Member, Rising}
 use Rattle.multiportgraph.specs.HiddenStays.{true_not_false}
 use Rattle.port_tables.specs.Listing.{Apart, apart_below}
@@ -60,18 +60,13 @@ unfolding largest_of
 largest_some v [] = inl (refl, refl)
 largest_some v (p ∷ l) = inr (go (largest_some v l))
   where
-    pick : (q : ℕ) → Member q l → largest_of v l ≡ v q → v p ≤ v q ⊎ v q ≤ v p → (r : ℕ) × Member r (p ∷ l) × (max (v p) (largest_of v l) ≡ v r)
+    pick : (q : ℕ) → Member q l → largest_of v l ≡ v q → v p < v q ⊎ v q ≤ v p → (r : ℕ) × Member r (p ∷ l) × (max (v p) (largest_of v l) ≡ v r)
     pick q i e (inl h) = (q, inr i, omega arith)
     pick q i e (inr h) = (p, inl refl, omega arith)
 
-    order : (a b : ℕ) → a ≤ b ⊎ b ≤ a
-    order zero b = inl (omega arith)
-    order (suc a) zero = inr (omega arith)
-    order (suc a) (suc b) = ⊎_elim (λ h. inl (omega arith)) (λ h. inr (omega arith)) (order a b)
-
     go : ((l ≡ []) × (largest_of v l ≡ 0)) ⊎ ((q : ℕ) × Member q l × (largest_of v l ≡ v q)) → (q : ℕ) × Member q (p ∷ l) × (max (v p) (largest_of v l) ≡ v q)
     go (inl h) = let e = h.1 in (p, inl refl, omega arith)
-    go (inr h) = pick h.0 h.1 h.2 (order (v p) (v h.0))
+    go (inr h) = pick h.0 h.1 h.2 (cases_lt (v p) (v h.0))
 
 -- it is known by being above all and that of some
 pub largest_is : (v : ℕ → ℕ) (l : List ℕ) (x : ℕ) → ((p : ℕ) → Member p l → v p ≤ x) → (x ≡ 0) ⊎ ((p : ℕ) × Member p l × (x ≡ v p)) → x ≡ largest_of v l
@@ -230,16 +225,11 @@ module _ (feeds : List Feed) where
 
   -- where no walk is so long, each is short, and passes no block twice
   pub walk_short : (slots a n : ℕ) (l : List ℕ) → comes feeds slots n ≡ false → Leads Fed a n l → length l ≤ slots
-  walk_short slots a n l e w = go (order (length l) slots)
+  walk_short slots a n l e w = go (cases_lt slots (length l))
     where
-      order : (a b : ℕ) → a ≤ b ⊎ b ≤ a
-      order zero b = inl (omega arith)
-      order (suc a) zero = inr (omega arith)
-      order (suc a) (suc b) = ⊎_elim (λ h. inl (omega arith)) (λ h. inr (omega arith)) (order a b)
-
-      go : length l ≤ slots ⊎ slots ≤ length l → length l ≤ slots
-      go (inl h) = h
-      go (inr h) =
+      go : slots < length l ⊎ length l ≤ slots → length l ≤ slots
+      go (inr h) = h
+      go (inl h) =
           let z : length l + 0 ≡ (length l - slots) + slots = omega arith in
           absurd (true_not_false (comes_fewer (length l - slots) slots n (subst (λ (k : ℕ). comes feeds k n ≡ true) z (comes_along 0 a n l (unfold comes in refl) w))) e)
 

@@ -48,6 +48,7 @@ fn all_forward<'a>(ends: &'a [u32], places: &'a [u32]) -> bool
 }
 
 // Whether the order names each block once and nothing else, and every wire goes from an earlier to a later one.
+#[tactic(auto, using(multiportgraph::specs::ListReads::few_blocks, files::specs::SaveSteps::blocks_first, files::specs::SaveSteps::blocks_long))]
 pub fn run_order(graph: &MultiPortGraph, order: &[u32]) -> bool
     requires { MultiWf graph.now }
     ensures { result ≡ run_order graph.now order.now }

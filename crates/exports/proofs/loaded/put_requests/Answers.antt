@@ -18,12 +18,6 @@ loop-k-preserved c =
     let i = c.loop-k.invariant in
     (k.0.0 ∙ i.0, request_turn i.1 _ _ k.0.1.0 (k.0.1.1 ∙ i.0) (ap (λ (n : ℕ). c.args.at + 20 * n) k.1) (omega (arith, k.2)) c.put_words.ensures)
 
-pub overflow_mul-result : goal.overflow_mul-result
-overflow_mul-result c = let e = requests_counted c.args.code c.args.numbers.now in omega (arith, c.requires)
-
-pub overflow_add-result : goal.overflow_add-result
-overflow_add-result c = let e = requests_counted c.args.code c.args.numbers.now in omega (arith, c.requires)
-
 pub returns : goal.returns
 returns c =
     let k = c.in-None.ensures.steps in

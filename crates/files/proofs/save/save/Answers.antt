@@ -1,9 +1,8 @@
 -- `files::save::save` meets its contract: a buffer that is too short, and one that the file is laid in, by lists that are long enough.
-use native.Mathlib.Omega.{arith}
-use mathlib.Core.Path.{◌≡◌, refl, ◌∙◌}
+use mathlib.Core.Path.{◌≡◌, ◌∙◌}
 use Rattle.multiportgraph.specs.Calls.{visible_nodes, visible_links}
 use Rattle.files.specs.Layout.{file_length}
-use Rattle.files.specs.SaveSteps.{counts_few, lists_long, save_short, save_answered}
+use Rattle.files.specs.SaveSteps.{save_short, save_answered}
 use Rattle.files.proofs.save.save.Goals as goal
 use Rattle.files.proofs.save.save.Goals.{After-file_length-size}
 
@@ -12,32 +11,8 @@ size_is : (c : After-file_length-size) → c.file_length-size.result ≡ file_le
 unfolding visible_nodes visible_links
 size_is c = c.file_length-size.ensures ∙ (λ i. file_length (c.node_count-blocks.ensures i) (c.link_count-wires.ensures i))
 
-pub file_length-size-requires : goal.file_length-size-requires
-unfolding visible_nodes visible_links
-file_length-size-requires c = let n = counts_few c.requires.fine c.node_count-blocks.ensures c.link_count-wires.ensures in (omega (arith, n.0), omega (arith, n.1))
-
 pub returns-then-buffer-size : goal.returns-then-buffer-size
 returns-then-buffer-size c = save_short c.requires.fine c.args.buffer.now _ (size_is (goal.at.returns-then-buffer-size c).After-file_length-size) c.if-buffer-size.true
-
-pub write_by-requires : goal.write_by-requires
-unfolding visible_nodes visible_links
-write_by-requires c =
-    let s = size_is (goal.at.write_by-requires c).After-file_length-size in
-    let l = lists_long c.node_count-blocks.ensures c.link_count-wires.ensures c.max-most.ensures c.if-most-le-FEW.true in
-    (c.requires, l.0, l.1, l.2, l.3, omega (arith, s, c.if-buffer-size.false), omega arith, omega arith, omega arith)
-
-pub write_by-requires-then-most-le-SOME : goal.write_by-requires-then-most-le-SOME
-unfolding visible_nodes visible_links
-write_by-requires-then-most-le-SOME c =
-    let s = size_is (goal.at.write_by-requires-then-most-le-SOME c).After-file_length-size in
-    let l = lists_long c.node_count-blocks.ensures c.link_count-wires.ensures c.max-most.ensures c.if-most-le-SOME.true in
-    (c.requires, l.0, l.1, l.2, l.3, omega (arith, s, c.if-buffer-size.false), omega arith, omega arith, omega arith)
-
-pub write_by-requires-else-most-le-SOME : goal.write_by-requires-else-most-le-SOME
-write_by-requires-else-most-le-SOME c =
-    let s = size_is (goal.at.write_by-requires-else-most-le-SOME c).After-file_length-size in
-    let n = counts_few c.requires.fine refl refl in
-    (c.requires, omega (arith, n.0), omega (arith, n.1), omega (arith, n.0), omega (arith, n.1), omega (arith, s, c.if-buffer-size.false), omega arith, omega arith, omega arith)
 
 pub returns-then-most-le-FEW : goal.returns-then-most-le-FEW
 returns-then-most-le-FEW c = (save_answered c.requires.fine c.args.buffer.now _ (size_is (goal.at.returns-then-most-le-FEW c).After-file_length-size) c.if-buffer-size.false, c.write_by.ensures)

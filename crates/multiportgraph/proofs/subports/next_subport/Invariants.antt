@@ -2,8 +2,9 @@
 use mathlib.Core.Path.{◌≡◌}
 use Prim.Native.Nat.{◌-◌, min}
 use Rattle.port_tables.specs.Limits.{port_slots}
-use Rattle.multiportgraph.specs.WalkScans.{first_subport, subports_rest}
+use Rattle.multi_tables.specs.Scans.{first_found}
+use Rattle.multiportgraph.specs.WalkScans.{subports_rest}
 use Rattle.multiportgraph.proofs.subports.next_subport.Given as goal
 
 abbrev pub invariant-loop-port : goal.invariant-loop-port
-invariant-loop-port l = first_subport (subports_rest l.tables.marks.now l.tables.links.now l.tables.owners.now l.tables.flags.now l.port l.first (l.stop - l.port)) ≡ first_subport (subports_rest l.tables.marks.now l.tables.links.now l.tables.owners.now l.tables.flags.now l.from l.offset (min l.end port_slots - l.from))
+invariant-loop-port l = first_found (subports_rest l.tables.marks.now l.tables.links.now l.tables.owners.now l.tables.flags.now l.port l.first (l.stop - l.port)) ≡ first_found (subports_rest l.tables.marks.now l.tables.links.now l.tables.owners.now l.tables.flags.now l.from l.offset (min l.end port_slots - l.from))

@@ -2,7 +2,7 @@
 use mathlib.Core.Path.{◌≡◌}
 use Prim.Native.Nat.{◌-◌, min}
 use Rattle.port_tables.specs.Limits.{port_slots}
-use Rattle.port_tables.specs.Lists.{filter}
+use Rattle.std.specs.List.{filter}
 use Rattle.multi_tables.specs.Scans.{first_found, passes_in, links_rest}
 use Rattle.multi_tables.proofs.wire_tables.WireTables.next_link.Given as goal
 

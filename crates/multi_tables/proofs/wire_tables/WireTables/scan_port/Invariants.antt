@@ -2,7 +2,7 @@
 use mathlib.Core.Path.{◌≡◌}
 use Prim.Native.Nat.{◌-◌}
 use Rattle.multi_tables.specs.Scans.{first_found, passes_in, links_in}
-use Rattle.port_tables.specs.Lists.{filter}
+use Rattle.std.specs.List.{filter}
 use Rattle.multi_tables.proofs.wire_tables.WireTables.scan_port.Given as goal
 
 abbrev pub invariant-loop-offset : goal.invariant-loop-offset

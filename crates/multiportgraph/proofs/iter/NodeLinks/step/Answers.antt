@@ -1,11 +1,8 @@
 -- `multiportgraph::iter::NodeLinks::step` meets its contract: nothing found, and a link.
 use Rattle.port_tables.specs.TableSteps.{with_numbers}
 use Rattle.multiportgraph.specs.WalkNumbers.{node_links_values}
-use Rattle.multiportgraph.specs.LinkWalkSteps.{links_item_lem, links_none}
+use Rattle.multiportgraph.specs.LinkWalkSteps.{links_item_lem}
 use Rattle.multiportgraph.proofs.iter.NodeLinks.step.Goals as goal
-
-pub returns-in_err-link : goal.returns-in_err-link
-returns-in_err-link c = rw c.from_residual.ensures (with_numbers node_links_values (links_none c.args.graph.now c.args.self _ c.next_of_block.ensures.0 c.in_err-link.was))
 
 pub returns : goal.returns
 returns c = with_numbers node_links_values (links_item_lem c.args.graph.now c.args.self _ c.next_of_block.ensures.0 _ _ c.in_ok-link.was c.held_at.ensures)

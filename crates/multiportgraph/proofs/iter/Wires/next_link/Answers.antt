@@ -6,13 +6,9 @@ use Prim.Native.Nat.{◌-◌}
 use Rattle.std.specs.Prelude.{None}
 use Rattle.multiportgraph.specs.Wires.{wires_seen}
 use Rattle.multiportgraph.specs.StartSteps.{block_is, block_unseen}
-use Rattle.multiportgraph.specs.WireSteps.{step_start, step_seen, step_on}
+use Rattle.multiportgraph.specs.WireSteps.{step_seen, step_on}
 use Rattle.multi_tables.specs.NamedEndSteps.{err_told, ok_told}
 use Rattle.multiportgraph.proofs.iter.Wires.next_link.Goals as goal
-
-pub returns-in_default : goal.returns-in_default
-returns-in_default c =
-    (step_start c.args.graph.now c.requires c.args.self _ _ (omega (arith, c.in_default.ensures)) (rw (c.default.ensures.0, c.default.ensures.1) at c.next_wire.ensures.0) refl, c.next_wire.ensures.1)
 
 pub returns-in_err-node : goal.returns-in_err-node
 returns-in_err-node c =

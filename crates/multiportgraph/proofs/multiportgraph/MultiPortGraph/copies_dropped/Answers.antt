@@ -3,8 +3,6 @@ use mathlib.Core.Path.{ap, ◌∙◌}
 use Prim.Native.Nat.{ℕ, ◌+◌, ◌-◌, ◌≤◌}
 use native.Mathlib.Omega.{arith}
 use lib.ListN.{length}
-use Rattle.std.proofs.lemmas.List.{take_rest}
-use Rattle.std.proofs.Common.{length-drop}
 use Rattle.std.proofs.Math.Seq.{length-sets}
 use Rattle.multiportgraph.specs.HiddenNodes.{copies_in}
 use Rattle.multiportgraph.specs.BlockSteps.{dropped_listed}
@@ -17,14 +15,6 @@ room : (c : After-copies_in-middle) → c.copies_in-middle.result + (c.outgoing-
 room c =
     let size = ap length c.copies_in-middle.ensures.1 ∙ length-sets c.args.list.now 0 (copies_in c.args.self.now (c.first-first.result + c.kept_incoming-kept_in.result) (c.incoming-old_in.result - c.kept_incoming-kept_in.result)) in
     omega (arith, c.incoming-old_in.ensures, c.outgoing-old_out.ensures, c.copies_in-middle.ensures.2, size, c.requires.1, c.requires.0.small, c.requires.0.ports)
-
-pub copies_in-requires : goal.copies_in-requires
-copies_in-requires c =
-    let fits = room (goal.at.copies_in-requires c).After-copies_in-middle in
-    let rest = length-drop c.copies_in-middle.result c.copies_in-middle.new.list in (
-      omega (arith, c.first-first.ensures, c.incoming-old_in.ensures, c.outgoing-old_out.ensures, c.kept_outgoing-kept_out.ensures, c.requires.0.ends, c.requires.0.ports),
-      rw (take_rest c.copies_in-middle.new.list c.copies_in-middle.result) (omega (arith, fits, rest)),
-    )
 
 pub returns : goal.returns
 returns c =

@@ -4,20 +4,13 @@ use Rattle.multi_tables.specs.TableReads.{plain_in}
 use Rattle.multiportgraph.specs.LowerSteps.{port_cut_below}
 use Rattle.multiportgraph.specs.OwnTables.{read_off}
 use Rattle.multiportgraph.specs.Presumed.{OnBlock}
-use Rattle.multiportgraph.specs.TableReadLaws.{place_read}
 use Rattle.multiportgraph.specs.declared.multiportgraph.PortUnlinked.{PortUnlinked}
-use Rattle.multiportgraph.proofs.CutLaws.{block_of_side, cut_port_split}
+use Rattle.multiportgraph.proofs.CutLaws.{block_of_side}
 use Rattle.multiportgraph.proofs.multiportgraph.MultiPortGraph.cut_answer.Goals as goal
 use Rattle.multiportgraph.proofs.multiportgraph.MultiPortGraph.cut_answer.Goals.{In_ok-port_direction}
 
 on_block : (c : In_ok-port_direction) → OnBlock c.args.self.now c.args.port.0 c.in_ok-port_direction.field-0
 on_block c = block_of_side c.requires c.args.port.0 (sym c.port_direction.ensures.0 ∙ c.in_ok-port_direction.was)
-
-pub returns-then-is_split : goal.returns-then-is_split
-returns-then-is_split c =
-    let b = on_block (goal.at.returns-then-is_split c).In_ok-port_direction in
-    let e = cut_port_split c.args.self.now c.args.port.0 _ _ _ b.is (sym c.is_split.ensures ∙ c.if-is_split.true) refl ((rw c.owner_table.ensures at c.place_in-place.ensures) ∙ place_read c.requires.fine _ _ _ b.is) in
-    rw c.new_unique.ensures (ap (λ (u : PortUnlinked). u.answer) e)
 
 pub returns : goal.returns
 returns c =

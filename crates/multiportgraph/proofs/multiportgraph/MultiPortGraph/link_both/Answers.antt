@@ -1,13 +1,9 @@
 -- `multiportgraph::multiportgraph::MultiPortGraph::link_both` meets its contract: the first end is ready, both are prepared, and no room.
 use Rattle.portgraph.specs.WfFacts.{node_len_fits, port_len_fits}
 use Rattle.multiportgraph.specs.PrepareSteps.{lower_wf}
-use Rattle.multiportgraph.specs.NeedLaws.{ready_for, grows_few, takes_small}
-use Rattle.multiportgraph.specs.LinkMade.{both_lack, both_first, both_need, both_done}
+use Rattle.multiportgraph.specs.NeedLaws.{grows_few, takes_small}
+use Rattle.multiportgraph.specs.LinkMade.{both_first, both_need, both_done}
 use Rattle.multiportgraph.proofs.multiportgraph.MultiPortGraph.link_both.Goals as goal
-
-pub link_second-requires : goal.link_second-requires
-link_second-requires c =
-    (record { both = c.requires.0; is = ready_for c.requires.0.first c.need_of-one.ensures c.in-Ready.is }, c.need_of-two.ensures)
 
 pub takes_of-requires : goal.takes_of-requires
 takes_of-requires c = grows_few c.requires.0.first c.need_of-one.ensures
@@ -19,13 +15,6 @@ pub room_for-requires : goal.room_for-requires
 room_for-requires c =
     let w = lower_wf c.args.self.now c.requires.0.first.wf in
     (node_len_fits _ w, port_len_fits _ w, takes_small c.need_of-one.result (grows_few c.requires.0.first c.need_of-one.ensures) c.takes_of.ensures, takes_small c.need_of-two.result (grows_few c.requires.0.second c.need_of-two.ensures) c.takes_of-2.ensures)
-
-pub returns-then-not-room_for : goal.returns-then-not-room_for
-returns-then-not-room_for c =
-    both_lack c.args.self.now c.requires.0 c.requires.1 c.need_of-one.ensures c.need_of-two.ensures c.takes_of.ensures c.takes_of-2.ensures c.room_for.ensures c.if-not-room_for.true
-
-pub prepare-requires : goal.prepare-requires
-prepare-requires c = (c.requires.0.first, c.need_of-one.ensures)
 
 pub link_second-requires-2 : goal.link_second-requires-2
 link_second-requires-2 c =

@@ -12,19 +12,12 @@ use Rattle.multiportgraph.specs.Answers.{link_numbers}
 use Rattle.multiportgraph.specs.Reading.{seen}
 use Rattle.multiportgraph.specs.Cases.{link_seen}
 use Rattle.multiportgraph.specs.CaseLaws.{link_cases}
-use Rattle.multiportgraph.specs.Presumed.{OnBlock}
-use Rattle.multiportgraph.specs.StartSteps.{block_is, block_told, block_unseen}
+use Rattle.multiportgraph.specs.StartSteps.{block_told, block_unseen}
 use Rattle.multiportgraph.specs.InputSteps.{ports_taken, ports_untaken, parts_untaken}
 use Rattle.multiportgraph.specs.LinkMade.{link_parts}
 use Rattle.multiportgraph.specs.declared.multiportgraph.PortsLinked.{PortsLinked}
 use Rattle.multiportgraph.proofs.multiportgraph.MultiPortGraph.link_lent.Goals as goal
 use Rattle.multiportgraph.proofs.multiportgraph.MultiPortGraph.link_lent.Goals.{In_ok-side, In_err-side, In_ok-inputs_free}
-
--- the first port as the tables of the graph tell it
-on-block : (c : In_ok-side) → OnBlock c.args.self.now c.args.port_a.0 c.in_ok-side.side
-on-block c =
-    let e = c.wire_tables-tables.ensures in
-    record { wf = c.requires; node = _; is = block_is c.args.self.now c.args.port_a.0 c.requires.fine.flags_long _ _ (sym (rw (← e.2, ← e.3) c.block_port.ensures) ∙ c.in_ok-side.was) }
 
 refused-port : (c : In_err-side) {r : Refusal} → c.block_port.result ≡ Err r → block_port c.args.self.now.graph.port_meta c.args.self.now.copy_node c.args.port_a.0 ≡ Err r
 refused-port c t = let e = c.wire_tables-tables.ensures in sym (rw (← e.2, ← e.3) c.block_port.ensures) ∙ t
@@ -41,9 +34,6 @@ untaken c =
     let e = c.wire_tables-tables.ensures in
     inputs_untaken _ _ _ _ _ _ _ (rw (← e.0, ← e.1, ← e.2, ← e.3) c.inputs_free.ensures) _ c.in_ok-inputs_free.was
 
-pub link_seen-requires : goal.link_seen-requires
-link_seen-requires c = on-block (goal.at.link_seen-requires c).In_ok-side
-
 pub returns-in_err-side : goal.returns-in_err-side
 returns-in_err-side c =
     let m = c.args.self.now in
@@ -52,7 +42,3 @@ returns-in_err-side c =
     let graph = sym (ap (λ (l : PortsLinked). l.graph) z ∙ block_unseen m c.args.port_a.0 c.requires.fine.flags_long (λ s. (link_seen m c.args.port_a.0 c.args.port_b.0 s (seen m c.args.port_b.0)).graph) m _ refl refl r) in
     let answer = block_told m c.args.port_a.0 c.requires.fine.flags_long (λ s. (link_seen m c.args.port_a.0 c.args.port_b.0 s (seen m c.args.port_b.0)).answer) _ refl refl r ∙ sym (ap (λ (l : PortsLinked). l.answer) z) in
     rw (passed_on c.from_residual-in_err-side.ensures.1) (and_numbers link_numbers (parts_untaken (ports_untaken c.requires _ _ refl (untaken (goal.at.returns-in_err-side c).In_ok-inputs_free) refl) (graph, answer)))
-
-pub returns : goal.returns
-returns c =
-    and_numbers link_numbers (parts_untaken (ports_untaken c.requires _ _ refl (untaken (goal.at.returns c).In_ok-inputs_free) refl) c.link_seen.ensures)

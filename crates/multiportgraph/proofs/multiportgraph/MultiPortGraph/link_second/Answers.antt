@@ -4,9 +4,6 @@ use Rattle.port_tables.specs.SameSides.{sides_compared}
 use Rattle.multiportgraph.specs.LinkMade.{second_linked, second_after}
 use Rattle.multiportgraph.proofs.multiportgraph.MultiPortGraph.link_second.Goals as goal
 
-pub prepare-requires : goal.prepare-requires
-prepare-requires c = (c.requires.0.both.second, c.requires.1)
-
 pub join_inner-requires : goal.join_inner-requires
 join_inner-requires c = second_after c.requires.0 c.prepare.result c.prepare.ensures c.in_ok-y.was
 

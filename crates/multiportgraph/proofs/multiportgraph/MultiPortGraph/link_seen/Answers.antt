@@ -3,7 +3,7 @@ use Rattle.std.specs.Prelude.{◌≡◌}
 use Rattle.multi_tables.specs.Forms.{seen_as}
 use Rattle.multiportgraph.specs.Reading.{seen}
 use Rattle.multiportgraph.specs.NamedLaws.{seen_as_lem}
-use Rattle.multiportgraph.specs.LinkMade.{call_first, call_second_hidden, both_on, call_both, call_self}
+use Rattle.multiportgraph.specs.LinkMade.{call_first, call_second_hidden, call_both, call_self}
 use Rattle.multiportgraph.proofs.multiportgraph.MultiPortGraph.link_seen.Goals as goal
 use Rattle.multiportgraph.proofs.multiportgraph.MultiPortGraph.link_seen.Goals.{After-seen_in}
 
@@ -13,9 +13,6 @@ told c = seen_as_lem c.requires.wf c.args.b.0 (let e = c.wire_tables.ensures in 
 
 pub returns-then-a-b : goal.returns-then-a-b
 returns-then-a-b c = call_self c.args.b.0 c.requires (told (goal.at.returns-then-a-b c).After-seen_in) c.in-Visible.is c.if-a-b.true c.link_self.ensures
-
-pub link_both-requires : goal.link_both-requires
-link_both-requires c = (both_on c.args.b.0 c.requires (told (goal.at.link_both-requires c).After-seen_in) c.in-Visible.is, c.if-a-b.false)
 
 pub returns-in-Dead : goal.returns-in-Dead
 returns-in-Dead c = call_first c.args.b.0 c.requires (told (goal.at.returns-in-Dead c).After-seen_in) c.in-Dead.is c.link_first.ensures

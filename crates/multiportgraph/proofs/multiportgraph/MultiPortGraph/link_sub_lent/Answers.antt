@@ -6,7 +6,7 @@ use Rattle.multi_tables.specs.TakenInputs.{link_named_under}
 use Rattle.multi_tables.specs.declared.answers.Refusal.{Refusal}
 use Rattle.portgraph.specs.Numbered.{and_numbers}
 use Rattle.multiportgraph.specs.Answers.{link_numbers}
-use Rattle.multiportgraph.specs.InputSteps.{sub_joined, sub_refused, parts_untaken}
+use Rattle.multiportgraph.specs.InputSteps.{sub_refused, parts_untaken}
 use Rattle.multiportgraph.specs.OwnTables.{read_off}
 use Rattle.multiportgraph.proofs.multiportgraph.MultiPortGraph.link_sub_lent.Goals as goal
 use Rattle.multiportgraph.proofs.multiportgraph.MultiPortGraph.link_sub_lent.Goals.{After-link_named_under}
@@ -21,7 +21,3 @@ named_read c =
 
 pub returns-in_err-x : goal.returns-in_err-x
 returns-in_err-x c = and_numbers link_numbers (parts_untaken (sub_refused c.requires _ _ _ _ (named_read (goal.at.returns-in_err-x c).After-link_named_under) c.in_err-x.was) (refl, passed_on c.from_residual.ensures.1))
-
-pub returns : goal.returns
-returns c =
-    and_numbers link_numbers (parts_untaken (sub_joined c.requires _ _ _ _ (named_read (goal.at.returns c).After-link_named_under) c.in_ok-x.was c.read_in-first.ensures c.read_in-second.ensures) (c.join_inner.ensures, refl))

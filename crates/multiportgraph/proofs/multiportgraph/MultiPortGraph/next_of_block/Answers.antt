@@ -1,7 +1,7 @@
 -- `multiportgraph::multiportgraph::MultiPortGraph::next_of_block` meets its contract: a node that is refused, a port held that is gone or hidden, and a scan.
 use mathlib.Core.Path.{sym, ◌∙◌}
 use Rattle.multiportgraph.specs.LinkWalkSteps.{left_found}
-use Rattle.port_tables.specs.Lists.{filter}
+use Rattle.std.specs.List.{filter}
 use Rattle.multi_tables.specs.Scans.{first_found, passes_in, beyond_in}
 use Rattle.multiportgraph.specs.OwnTables.{read_off}
 use Rattle.multi_tables.specs.NamedEndSteps.{ok_told}

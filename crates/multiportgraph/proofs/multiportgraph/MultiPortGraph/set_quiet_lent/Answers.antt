@@ -1,21 +1,16 @@
 -- `multiportgraph::MultiPortGraph::set_quiet_lent` meets its contract: each refusal, and the resize.
 use mathlib.Core.Path.{sym, ap, ◌∙◌}
 use native.Mathlib.Omega.{arith}
-use borrow.Author.Tests.{ltb-true, ltb-false}
+use borrow.Author.Tests.{ltb-false}
 use Rattle.port_tables.specs.TableSteps.{passed_on}
 use Rattle.portgraph.specs.Numbered.{and_numbers}
 use Rattle.multiportgraph.specs.Answers.{set_numbers}
-use Rattle.multiportgraph.specs.BlockSteps.{block_in_lem, block_refused, found_is, set_many}
+use Rattle.multiportgraph.specs.BlockSteps.{block_in_lem, block_refused, resizes_found}
 use Rattle.multiportgraph.specs.HiddenNodes.{enough}
 use Rattle.multiportgraph.specs.Presumed.{Resizes}
 use Rattle.multiportgraph.specs.declared.multiportgraph.PortsSet.{PortsSet}
 use Rattle.multiportgraph.proofs.multiportgraph.MultiPortGraph.set_quiet_lent.Goals as goal
 use Rattle.multiportgraph.proofs.multiportgraph.MultiPortGraph.set_quiet_lent.Goals.{In_ok-meta}
-
-pub returns-then-too_many_ports : goal.returns-then-too_many_ports
-returns-then-too_many_ports c =
-    let e = set_many c.args.self.now c.args.node.0 c.args.incoming c.args.outgoing enough (ltb-true _ _ (sym c.too_many_ports.ensures ∙ c.if-too_many_ports.true)) in
-    and_numbers set_numbers (ap (λ (x : PortsSet). x.graph) e, ap (λ (x : PortsSet). x.answer) e)
 
 pub returns-in_err-meta : goal.returns-in_err-meta
 returns-in_err-meta c =
@@ -23,9 +18,7 @@ returns-in_err-meta c =
     and_numbers set_numbers (ap (λ (x : PortsSet). x.graph) e, passed_on c.from_residual.ensures.1 ∙ ap (λ (x : PortsSet). x.answer) e)
 
 here : (c : In_ok-meta) → Resizes c.args.self.now c.args.node.0 c.in_ok-meta.meta c.args.incoming c.args.outgoing
-here c =
-    let found = found_is c.args.self.now c.args.node.0 _ (sym c.in_ok-meta.was ∙ c.block.ensures) in
-    record { wf = c.requires; few = ltb-false _ _ (sym c.too_many_ports.ensures ∙ c.if-too_many_ports.false); meta = found.0; seen = found.1 }
+here c = resizes_found c.requires (ltb-false _ _ (sym c.too_many_ports.ensures ∙ c.if-too_many_ports.false)) (sym c.in_ok-meta.was ∙ c.block.ensures)
 
 pub resize_listing-requires : goal.resize_listing-requires
 resize_listing-requires c = (here (goal.at.resize_listing-requires c).In_ok-meta, omega (arith, c.dropped.ensures, c.if-dropped-le-FEW.true))

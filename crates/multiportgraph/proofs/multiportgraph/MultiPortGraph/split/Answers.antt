@@ -6,9 +6,8 @@ use Rattle.port_tables.specs.declared.direction.Direction.{Direction}
 use Rattle.port_tables.specs.declared.direction.Direction.TheVariants.{Incoming, Outgoing}
 use Rattle.portgraph.specs.WfFacts.{link_count_fits}
 use Rattle.multi_tables.specs.TableReads.{copy_at, subports_at}
-use Rattle.multiportgraph.specs.PrepareSteps.{or_ok, or_err, few_copies, few_subs, split_full}
+use Rattle.multiportgraph.specs.PrepareSteps.{or_ok, few_copies, few_subs}
 use Rattle.multiportgraph.specs.SplitLaws.{SplitTables}
-use Rattle.port_tables.specs.TableSteps.{passed_on}
 use Rattle.multiportgraph.specs.TableSteps.{added_wf, split_told, split_done}
 use Rattle.multiportgraph.proofs.multiportgraph.MultiPortGraph.split.Goals as goal
 use Rattle.multiportgraph.proofs.multiportgraph.MultiPortGraph.split.Goals.{In_ok-node}
@@ -24,11 +23,6 @@ subports_small Outgoing = omega arith
 -- what the split does to the tables
 told : (c : In_ok-node) → SplitTables c.args.port.port c.args.port.side c.add_node_lent.new.self c.in_ok-node.node.0 c.in_ok-node.first.0
 told c = split_told c.requires c.new-shape.ensures.0 c.new-shape.ensures.1 c.add_node_lent.ensures.0 c.add_node_lent.ensures.1 (or_ok _ _ c.or.ensures c.in_ok-node.was)
-
-pub returns-in_err-node : goal.returns-in_err-node
-returns-in_err-node c =
-    let e = or_err _ c.or.ensures c.in_err-node.was in
-    rw (passed_on c.from_residual.ensures.1, e.0) (split_full c.args.self.now c.args.port.port c.args.port.side c.new-shape.ensures.0 c.new-shape.ensures.1 c.add_node_lent.ensures.0 c.add_node_lent.ensures.1 e.1)
 
 pub overflow_add-copy : goal.overflow_add-copy
 overflow_add-copy c = omega (arith, (told (goal.at.overflow_add-copy c).In_ok-node).fits, c.new-shape.ensures.2, copy_small c.args.port.side)

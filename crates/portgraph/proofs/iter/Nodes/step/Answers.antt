@@ -7,7 +7,6 @@ use Rattle.port_tables.specs.Limits.{node_slots}
 use Rattle.port_tables.specs.TableSteps.{with_numbers}
 use Rattle.portgraph.specs.LinkWalks.{before, first_where}
 use Rattle.portgraph.specs.LinkWalkSteps.{found_where, node_hit, nodes_given}
-use Rattle.portgraph.specs.WalkLaws.{step_where_gone}
 use Rattle.portgraph.specs.Walks.{nodes_step_numbers}
 use Rattle.portgraph.proofs.iter.Nodes.step.Goals as goal
 use Rattle.portgraph.proofs.iter.Nodes.step.Goals.{After-find}
@@ -17,9 +16,6 @@ searched c =
     rw (← c.wide.ensures)
     (found_where _ _ _ _
     (first_from_Range _ _ _ _ (λ n. node_hit c.args.graph.now.node_meta n ≡ true) (λ n. node_hit c.args.graph.now.node_meta n ≡ false) c.find.ensures.ran (λ x q k. search (rules, tests)) (λ x q k. search (rules, tests))))
-
-pub returns-then-not-node_held : goal.returns-then-not-node_held
-returns-then-not-node_held c = with_numbers nodes_step_numbers (sym (step_where_gone _ _ (sym c.node_held.ensures ∙ c.if-not-node_held.true)))
 
 pub returns-in_err-n : goal.returns-in_err-n
 returns-in_err-n c =

@@ -5,8 +5,9 @@
   same_laws.py --library   and those whose statement a law of the toolchain's library has (RATTLE_LIBS, else /opt/rattle/rattle)
 
 A law is a name with a type that ends in a statement (an equation, an order, a membership, a refutation). Variables are renamed in the
-order in which the conclusion names them, implicit ones count as named ones, both sides of an equation may change places. Steps within a
-`where` are not compared. Prints each group, and last how many laws would go if each group were one.
+order in which the conclusion names them, implicit ones count as named ones, both sides of an equation may change places. Fronts, files named
+after theorems, whose statements stand again with their proofs, and steps within a `where` are not compared. It sees no instance of a more
+general law. Prints each group, and last how many laws would go if each group were one.
 """
 import os
 import re
@@ -14,188 +15,162 @@ import subprocess
 import sys
 
 TOP = os.path.join(os.path.dirname(os.path.abspath(__file__)), "..")
-SIGN = re.compile(r"^( *)(pub )?([^\s:(){}]+) : (.*)$")
+SIGN = re.compile(r"^( *)(?:abbrev )?(?:pub )?(?:abbrev )?([^\s:(){}]+)(?: \{[^:{}]*\})? : (.*)$")
 WORD = re.compile(r"[^\s(){},.;]+|[(){},.;]")
 STATEMENT = re.compile(r"≡|≤|<|⊥|Member|Once|⊎|×|Σ")
+OPEN, CLOSE = "({⟨[", ")}⟩]"
 
 
-def join_lines(text):
-    """Signature lines with what stands deeper below them, without comments."""
+def joined(text):
+    """The lines without comments, a module's head in one line, all levels of types the same."""
     out = []
     for line in text.split("\n"):
         line = re.sub(r"(^|\s)--.*$", "", line).rstrip()
-        if line:
+        if not line:
+            continue
+        if out and re.match(r"^ *module _ ", out[-1]) and not out[-1].endswith("where"):
+            out[-1] += " " + line.strip()
+        else:
             out.append(line)
-    return out
+    return [re.sub(r"Type (ℓ\S*|\(.*?\))(?=[\s)}])", "Type 0", line) for line in out]
 
 
 def laws_of(path):
+    """Name, parameters of the modules around it, and type, of each law of a file."""
     with open(path, encoding="utf-8") as text:
-        lines = join_lines(text.read())
+        lines = joined(text.read())
     scopes, found, i = [], [], 0
     while i < len(lines):
         line = lines[i]
         depth = len(line) - len(line.lstrip())
         scopes = [s for s in scopes if s[0] < depth]
+        inside = any(s[1] is None for s in scopes)
         head = re.match(r"^ *module _ (.*) where$", line)
-        if head and not any(s[1] is None for s in scopes):
+        if head and not inside:
             scopes.append((depth, head.group(1)))
-            i += 1
-            continue
-        if re.match(r"^ *(where|let)\b", line) or re.search(r"\bwhere$", line) or re.match(r"^ *(record|data|class|struct|type)\b", line):
+        elif re.match(r"^ *(where|let|record|data)\b", line) or line.endswith(" where"):
             scopes.append((depth, None))
-            i += 1
-            continue
-        m = SIGN.match(line)
-        if m and not any(s[1] is None for s in scopes) and depth == (scopes[-1][0] + 2 if scopes else 0) and m.group(3) not in ("use", "record"):
-            text, j = m.group(4), i + 1
-            while j < len(lines) and len(lines[j]) - len(lines[j].lstrip()) > depth and not SIGN.match(lines[j]):
-                text += " " + lines[j].strip()
-                j += 1
-            found.append((m.group(3), " ".join(s[1] for s in scopes if s[1]), text))
-            i = j
-            continue
+        else:
+            law = SIGN.match(line)
+            if law and not inside and depth == (scopes[-1][0] + 2 if scopes else 0):
+                text = law.group(3)
+                while i + 1 < len(lines) and len(lines[i + 1]) - len(lines[i + 1].lstrip()) > depth and not SIGN.match(lines[i + 1]):
+                    i += 1
+                    text += " " + lines[i].strip()
+                found.append((law.group(2), " ".join(s[1] for s in scopes), text))
         i += 1
     return found
 
 
-def parts(text):
-    """The type cut at the arrows that stand outside all brackets."""
-    out, deep, word = [], 0, ""
+def pieces(text):
+    """A type cut at the arrows that stand outside all brackets."""
+    out, deep = [""], 0
     for c in text:
-        if c in "({⟨[":
-            deep += 1
-        if c in ")}⟩]":
-            deep -= 1
+        deep += (c in OPEN) - (c in CLOSE)
         if c == "→" and deep == 0:
-            out.append(word.strip())
-            word = ""
+            out.append("")
         else:
-            word += c
-    out.append(word.strip())
-    return out
+            out[-1] += c
+    return [p.strip() for p in out]
 
 
 def binders(text):
-    """The (name : type) groups at the front of a part, else None."""
+    """The (names : type) groups of a part that has nothing else, else None."""
     groups, rest = [], text.strip()
     while rest and rest[0] in "({":
-        deep = 0
+        deep, k = 0, 0
         for k, c in enumerate(rest):
-            deep += c in "({"
-            deep -= c in ")}"
+            deep += (c in "({") - (c in ")}")
             if deep == 0:
                 break
-        inner = rest[1:k]
-        if " : " not in inner or not re.match(r"^[^()]*? : ", inner):
+        named = re.match(r"([^()]*?) : (.*)$", rest[1:k])
+        if not named:
             return None
-        names, kind = inner.split(" : ", 1)
-        groups.append((names.split(), kind))
-        rest = rest[k + 1:].strip()
+        groups.append((named.group(1).split(), named.group(2)))
+        rest = rest[k + 1 :].strip()
     return groups if groups and not rest else None
 
 
-def canonical(scope, text):
-    """The law with its variables renamed, as a set of two texts (both directions of an equation)."""
-    pieces = ([scope] if scope else []) + parts(text)
-    bound, asked = [], []
-    for piece in pieces[:-1]:
-        groups = binders(piece)
+def forms(scope, text):
+    """The law with its variables renamed: one text, or two for an equation, which may be read from either side."""
+    parts = ([scope] if scope else []) + pieces(text)
+    kinds, asked, end = {}, [], parts[-1]
+    for part in parts[:-1]:
+        groups = binders(part)
         if groups is None:
-            asked.append(piece)
+            asked.append(part)
         else:
-            for names, kind in groups:
-                bound += [(n, kind) for n in names]
-    end = pieces[-1]
+            kinds.update((name, kind) for names, kind in groups for name in names)
     if not STATEMENT.search(end):
-        return None
-    sides = [end]
-    deep, cut = 0, None
+        return set()
+    deep, cuts = 0, []
     for k, c in enumerate(end):
-        deep += c in "({⟨["
-        deep -= c in ")}⟩]"
+        deep += (c in OPEN) - (c in CLOSE)
         if c == "≡" and deep == 0:
-            cut = k if cut is None else -1
-    if cut is not None and cut > 0:
-        left, right = end[:cut].strip(), end[cut + 1:].strip()
+            cuts.append(k)
+    sides = [end]
+    if len(cuts) == 1:
+        left, right = end[: cuts[0]].strip(), end[cuts[0] + 1 :].strip()
         sides = [left + " ≡ " + right, right + " ≡ " + left]
     answers = set()
     for side in sides:
-        names, kinds = {}, dict(bound)
+        names = {}
 
-        def told(piece, loose=()):
-            words = []
-            local = {}
-            toks = WORD.findall(piece)
-            for t in toks:
-                if t in kinds and t not in local:
-                    names.setdefault(t, "v%d" % len(names))
-                    words.append(names[t])
-                else:
-                    words.append(t)
-            return " ".join(words)
+        def told(part):
+            return " ".join(names.setdefault(w, "v%d" % len(names)) if w in kinds else w for w in WORD.findall(part))
 
         first = told(side)
-        hypotheses = sorted(told(a) for a in asked)
-        held = sorted((names[n], " ".join(WORD.findall(kinds[n]))) for n in names)
-        types = []
-        for name, kind in held:
-            types.append("%s:%s" % (name, " ".join(names.get(w, w) for w in WORD.findall(kind))))
-        extra = sorted(" ".join(names.get(w, w) for w in WORD.findall(kinds[n])) for n in kinds if n not in names and STATEMENT.search(kinds[n]))
+        premises = sorted(told(a) for a in asked)
+        types = sorted("%s:%s" % (names[n], " ".join(names.get(w, w) for w in WORD.findall(kinds[n]))) for n in names)
         types = [t for t in types if not t.endswith(":Type 0")]
-        inner = [re.sub(r"λ ([a-z]\w*'*) \. ", "λ . ", w) for w in [first]]
-        # a variable that a λ binds is told by its place
-        lambdas = re.findall(r"λ (\S+) \.", first)
-        for k, n in enumerate(lambdas):
-            inner[0] = re.sub(r"(?<!\S)%s(?!\S)" % re.escape(n), "l%d" % k, inner[0])
-        answers.add(inner[0] + " | " + "; ".join(hypotheses + extra) + " | " + "; ".join(types))
+        # what a module asks without a use in the statement
+        premises += sorted(" ".join(names.get(w, w) for w in WORD.findall(k)) for n, k in kinds.items() if n not in names and STATEMENT.search(k))
+        for k, bound in enumerate(re.findall(r"λ (\S+) \.", first)):
+            first = re.sub(r"(?<!\S)%s(?!\S)" % re.escape(bound), "l%d" % k, first)
+        answers.add(first + " | " + "; ".join(premises) + " | " + "; ".join(types))
     return answers
 
 
-def files():
+def ours():
     names = subprocess.run(["git", "ls-files", "crates"], cwd=TOP, stdout=subprocess.PIPE, text=True, check=True).stdout.split("\n")
-    return [n for n in names if n.endswith(".antt") and "/declared/" not in n]
+    for name in names:
+        if name.endswith(".antt") and "/declared/" not in name and "Theorem" not in os.path.basename(name):
+            yield os.path.join(TOP, name), name.replace("crates/", "").replace("specs/", "").replace(".antt", "")
+
+
+def library():
+    root = os.environ.get("RATTLE_LIBS", "/opt/rattle/rattle")
+    for folder, _, inside in os.walk(root):
+        for one in inside:
+            if one.endswith(".antt") and "/Tests" not in folder and "/Examples" not in folder:
+                path = os.path.join(folder, one)
+                yield path, "library " + os.path.relpath(path, root)[:-5]
 
 
 def main():
     known, groups = {}, []
-    def enter(where, name, scope, text, only_known):
-        keys = canonical(scope, text)
-        if not keys:
-            return
-        for key in keys:
-            if key in known:
-                known[key].append((where, name))
-                return
-        if only_known:
-            return
-        group = [(where, name)]
-        for key in keys:
-            known[key] = group
-        groups.append(group)
-    for path in files():
-        for name, scope, text in laws_of(os.path.join(TOP, path)):
-            enter(path, name, scope, text, False)
-    lib_of = {}
+    for path, where in ours():
+        for name, scope, text in laws_of(path):
+            keys = forms(scope, text)
+            group = next((known[k] for k in keys if k in known), None)
+            if group is None and keys:
+                group = []
+                groups.append(group)
+                known.update((k, group) for k in keys)
+            if group is not None:
+                group.append("%s (%s)" % (name, where))
+    own = [len(g) for g in groups]
     if "--library" in sys.argv:
-        root = os.environ.get("RATTLE_LIBS", "/opt/rattle/rattle")
-        for folder, _, inside in os.walk(root):
-            if "/Tests" in folder or "/Examples" in folder:
-                continue
-            for one in inside:
-                if one.endswith(".antt"):
-                    try:
-                        for name, scope, text in laws_of(os.path.join(folder, one)):
-                            enter("library " + os.path.relpath(os.path.join(folder, one), root), name, scope, text, True)
-                    except UnicodeDecodeError:
-                        pass
+        for path, where in library():
+            for name, scope, text in laws_of(path):
+                group = next((known[k] for k in forms(scope, text) if k in known), None)
+                if group is not None:
+                    group.append("%s (%s)" % (name, where))
     count = 0
-    for group in groups:
-        ours = [g for g in group if not g[0].startswith("library")]
-        lib = [g for g in group if g[0].startswith("library")]
-        if len(ours) + (1 if lib else 0) > 1:
-            print(", ".join("%s (%s)" % (n, w.replace("crates/", "").replace("specs/", "").replace(".antt", "")) for w, n in ours + lib[:2]))
-            count += len(ours) - (0 if lib else 1)
+    for group, mine in zip(groups, own):
+        if len(group) > 1:
+            print(", ".join(group[: mine + 2]))
+            count += mine - (mine == len(group))
     print("%d laws would go" % count)
 
 

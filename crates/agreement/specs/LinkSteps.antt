@@ -12,7 +12,7 @@ use Rattle.portgraph.specs.GoodSlots.{zero_is_not_one}
 use Rattle.port_tables.specs.declared.direction.Direction.{Direction}
 use Rattle.port_tables.specs.declared.direction.Direction.TheVariants.{Incoming, Outgoing}
 use Rattle.multi_tables.specs.Forms.{subport#}
-use Rattle.multiportgraph.specs.WellFormed.{Fine, lift, outer, IsEnd, WireIn, SameBlocks}
+use Rattle.multiportgraph.specs.WellFormed.{Fine, lift, outer, IsEnd, WireIn, SameBlocks, HasEnd}
 use Rattle.multiportgraph.specs.Ends.{outer_apart}
 use Rattle.multiportgraph.specs.Graph.{with_graph}
 use Rattle.multiportgraph.specs.HiddenNodes.{prepare}
@@ -20,7 +20,7 @@ use Rattle.multiportgraph.specs.HiddenNodes as hiding
 use Rattle.port_tables.specs.Places.{Place, Wire, spot, wire_of_sides, next_offset}
 use Rattle.multiportgraph.specs.LinkCutLaws.{Joined, join_ends}
 use Rattle.multiportgraph.specs.PrepareLaws.{prepare_law}
-use Rattle.multiportgraph.specs.SplitLaws.{HasEnd, KeptEnd, PreparedEnd, end_of_wire}
+use Rattle.multiportgraph.specs.SplitLaws.{KeptEnd, PreparedEnd, end_of_wire}
 use Rattle.multiportgraph.specs.declared.multiportgraph.MultiPortGraph.{MultiPortGraph}
 use Rattle.multiportgraph.specs.declared.multiportgraph.PortsLinked.{PortsLinked}
 use Rattle.theorems.specs.Book.{Book, with_wires, spot_of, add_wire, book_link}

@@ -12,7 +12,7 @@ use Rattle.port_tables.specs.declared.direction.Direction.{Direction}
 use Rattle.port_tables.specs.declared.direction.Direction.TheVariants.{Incoming, Outgoing}
 use Rattle.multiportgraph.specs.Reading.{is_split, seen}
 use Rattle.multi_tables.specs.Forms.{visible}
-use Rattle.multiportgraph.specs.WellFormed.{lift, outer, WireIn}
+use Rattle.multiportgraph.specs.WellFormed.{lift, outer, WireIn, HasEnd}
 use Rattle.multiportgraph.specs.Ends.{EndOf, out_side, outer_apart, seen_block, seen_dead}
 use Rattle.multiportgraph.specs.HiddenStays.{true_not_false}
 use Rattle.port_tables.specs.Places.{Place, Wire, spot, at_spot, at_end, touches, any_touches, next_offset}
@@ -20,7 +20,7 @@ use Rattle.multiportgraph.specs.LinkCutLaws.{at_spot_here, at_spot_is}
 use Rattle.multiportgraph.specs.Refusals as kit
 use Rattle.multi_tables.specs.Forms as kit_forms
 use Rattle.multiportgraph.specs.Refusals.{wired_input, wired_seen}
-use Rattle.multiportgraph.specs.SplitLaws.{HasEnd, end_of_wire, wire_of_end}
+use Rattle.multiportgraph.specs.SplitLaws.{end_of_wire, wire_of_end}
 use Rattle.multiportgraph.specs.declared.multiportgraph.MultiPortGraph.{MultiPortGraph}
 use Rattle.port_tables.specs.declared.release.Release.{Release}
 use Rattle.port_tables.specs.declared.release.Release.TheVariants.{One, Two}

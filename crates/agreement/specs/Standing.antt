@@ -6,9 +6,8 @@ use Rattle.port_tables.specs.Lists.{Member, Rising}
 use Rattle.port_tables.specs.Entries.{ports_on, new_count}
 use Rattle.portgraph.specs.Lookups.{is_some}
 use Rattle.portgraph.specs.Model as model
-use Rattle.portgraph.specs.Model.{Model, Slots, gone, live, slot_of, count_of}
+use Rattle.portgraph.specs.Model.{Model, Slots, gone, live, slot_of, count_of, Dead}
 use Rattle.portgraph.specs.GoodSlots.{zero_is_not_one}
-use Rattle.portgraph.specs.LinkHolds.{Dead}
 use Rattle.portgraph.specs.PlaceLaws.{meta_of_node}
 use Rattle.port_tables.specs.declared.direction.Direction.{Direction}
 use Rattle.port_tables.specs.declared.direction.Direction.TheVariants.{Incoming, Outgoing}

@@ -115,9 +115,6 @@ pub record Building (m₀ : MultiPortGraph) (calls : List Call) (m : MultiPortGr
   pub told : first_refusal m left ≡ first_refusal m₀ calls
   pub graph : graph_after m left ≡ graph_after m₀ calls
 
-pub build_begins : {m : MultiPortGraph} {calls : List Call} → MultiWf m → Building m calls m calls
-build_begins w = record { kept = w; told = refl; graph = refl }
-
 module _ {m₀ m : MultiPortGraph} {calls left : List Call} (b : Building m₀ calls m left) where
   pub build_ends : left ≡ [] → Built m₀ calls m
   unfolding first_refusal_under graph_after
@@ -229,9 +226,6 @@ module _ {bytes : List ℕ} {blocks : ℕ} {table : List ℕ} {next i : ℕ} (re
               below : (r i : ℕ) → r < i + 1 → (r ≡ i → ⊥) → r < i
               below r i j w = omega arith
 
-  pub filling_ends : blocks ≤ i → Firsts table bytes blocks
-  filling_ends h = let k = f.inside in record { each = λ r j. f.each r (omega arith); small = λ r j. f.small r (omega arith) }
-
 -- The ports of a wire.
 
 every_at : {A : Type 0} (f : A → Bool) (l : List A) (i : ℕ) (d : A) → list_all f l ≡ true → i < length l → f (get_or l i d) ≡ true
@@ -255,19 +249,6 @@ linkable {table} {bytes} {blocks} {u} {n} {i} {wire} f b w e few h p =
     let a = ltb-true wire.a (length v.blocks) s.0 in
     let c = ltb-true wire.c (length v.blocks) s.1 in
     record { firsts = f; read = b; few = few; source = omega arith; target = omega arith }
-
-module _ {table bytes : List ℕ} {blocks : ℕ} {wire : Record} (l : Linkable table bytes blocks wire) where
-  pub out_port_is : (block : Record) → block ≡ record_in bytes (place_of 0 wire.a) → get_or table wire.a 0 + block.a + wire.b ≡ out_port (unbytes bytes).blocks (wire_of wire)
-  out_port_is block e =
-      let a = l.firsts.each wire.a l.source in
-      let b : block.a ≡ (block_at (unbytes bytes).blocks wire.a).incoming = ap (λ (x : Record). x.a) e ∙ sym (ap (λ (x : BlockPorts). x.incoming) (l.read.each wire.a l.source)) in
-      λ j. a j + b j + wire.b
-
-  pub in_port_is : get_or table wire.c 0 + wire.d ≡ in_port (unbytes bytes).blocks (wire_of wire)
-  in_port_is = ap (λ (n : ℕ). n + wire.d) (l.firsts.each wire.c l.target)
-
-  pub first_small : (r : ℕ) → r < blocks → get_or table r 0 ≤ 131070 * node_slots
-  first_small r h = let a = l.firsts.small r h in let b = l.few in omega arith
 
 -- A laid file.
 
@@ -299,11 +280,6 @@ module _ (bytes : List ℕ) (w : is_whole bytes ≡ true) where
 pub sums_wrong : (bytes : List ℕ) → false ≡ is_whole bytes → layout_answer bytes ≡ Err BadSums
 unfolding layout_answer
 sums_wrong bytes h = rw (← h) refl
-
--- so few blocks that a few more fit a number of the machine
-pub blocks_short : {bytes : List ℕ} (n : ℕ) → BlocksRead bytes n → n + n ≤ length bytes
-blocks_short zero r = omega arith
-blocks_short (suc n) r = let h = r.there n (omega arith) in omega arith
 
 -- The whole build.
 

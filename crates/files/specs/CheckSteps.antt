@@ -52,12 +52,6 @@ module _ (l : List ℕ) (some : 0 < length l) (whole : length l % 512 ≡ 0) whe
       let n : length l / 512 ≡ suc (length (drop 512 l) / 512) = omega arith in
       rw n
 
-  pub whole_on : length (drop 512 l) % 512 ≡ 0
-  whole_on = let d = length-drop 512 l in omega arith
-
-  pub whole_unit : 512 ≤ length l
-  whole_unit = omega arith
-
 pub none_left : (l : List ℕ) → length l ≤ 0 → l ≡ []
 none_left [] h = refl
 none_left (x ∷ l) h = absurd (omega arith)
@@ -124,10 +118,6 @@ module _ {S F : Type 0} {steps : S → Option (Bor (List ℕ)) → S → Type 0}
 
 -- Whole files.
 
-pub odd_file : (file : List ℕ) → (length file % 512 ≡ 0 → ⊥) → eqb (length file % 512) 0 ≡ is_whole file
-unfolding is_whole
-odd_file file h = rw (ne_eqb (length file % 512) 0 h)
-
 units_are : (m : ℕ) (l : List ℕ) → chunks 512 m l ≡ units_in m l
 unfolding chunks units_in
 units_are zero l = refl
@@ -178,15 +168,6 @@ zeros_lent unit count long few h =
 -- What a unit says by itself.
 
 module _ (kind next : ℕ) where
-  pub kind_blocks : kind ≡ 1 → true ≡ kind_fits kind next
-  kind_blocks e = rw (eq-eqb kind 1 e)
-
-  pub kind_before : (kind ≡ 1 → ⊥) → next ≡ 1 → false ≡ kind_fits kind next
-  kind_before h e = rw (ne_eqb kind 1 h, eq-eqb next 1 e)
-
-  pub kind_other : (kind ≡ 1 → ⊥) → (next ≡ 1 → ⊥) → eqb kind 2 ≡ kind_fits kind next
-  kind_other h k = rw (ne_eqb kind 1 h, ne_eqb next 1 k)
-
   -- a kind that fits is one of the two
   kind_some : kind_fits kind next ≡ true → kind ≡ 0 → ⊥
   kind_some e z = absurd_kind (rw z at e)
@@ -199,15 +180,6 @@ module _ (kind next : ℕ) where
           go false f = let q : ◌≡◌ {A = ℕ} 0 1 = cc in omega arith
 
   module _ (count : ℕ) where
-    pub count_none : count ≡ 0 → false ≡ count_fits kind next count
-    count_none e = rw (eq-eqb count 0 e)
-
-    pub count_full : (count ≡ 0 → ⊥) → next ≡ kind → eqb count 63 ≡ count_fits kind next count
-    count_full h e = rw (ne_eqb count 0 h, eq-eqb next kind e)
-
-    pub count_last : (count ≡ 0 → ⊥) → (next ≡ kind → ⊥) → leb count 63 ≡ count_fits kind next count
-    count_last h e = rw (ne_eqb count 0 h, ne_eqb next kind e)
-
     pub count_few : count_fits kind next count ≡ true → count ≤ unit_records
     count_few = go (eqb count 0) (eqb next kind)
       where
@@ -225,27 +197,13 @@ module _ (unit : List ℕ) (next kind count : ℕ) (isKind : kind ≡ field_at u
       let g₂ : z ≡ list_all (eqb 0) (take (8 * (unit_records - count)) (drop (4 + 8 * count) unit)) = rw n at g in
       rw (← isKind, ← isCount) (λ j. e j && (f j && (g₂ j && i j)))
 
-  pub unit_kind_wrong : false ≡ kind_fits kind next → false ≡ unit_fits unit next
-  unfolding unit_fits
-  unit_kind_wrong e = rw (← isKind, ← e)
-
-  pub unit_count_wrong : true ≡ kind_fits kind next → false ≡ count_fits kind next count → false ≡ unit_fits unit next
-  unfolding unit_fits
-  unit_count_wrong e f = rw (← isKind, ← isCount, ← e, ← f)
-
   module _ (k : true ≡ kind_fits kind next) (c : true ≡ count_fits kind next count) where
     pub unit_few : count ≤ 63
     unit_few = count_few kind next count (sym c)
 
-    pub unit_zeros_wrong : false ≡ list_all (eqb 0) (take (508 - (4 + 8 * count)) (drop (4 + 8 * count) unit)) → false ≡ unit_fits unit next
-    unit_zeros_wrong z = unit_parts true true false _ k c z unit_few refl
-
     module _ (z : true ≡ list_all (eqb 0) (take (508 - (4 + 8 * count)) (drop (4 + 8 * count) unit))) where
       pub unit_of_blocks : (b : Bool) → kind ≡ 1 → b ≡ list_all block_zeros (records_at count (drop 4 unit)) → b ≡ unit_fits unit next
       unit_of_blocks b e h = unit_parts true true true b k c z unit_few (h ∙ sym (rw (eq-eqb kind 1 e) refl))
-
-      pub unit_of_wires : (kind ≡ 1 → ⊥) → true ≡ unit_fits unit next
-      unit_of_wires e = unit_parts true true true true k c z unit_few (sym (rw (ne_eqb kind 1 e) refl))
 
 -- All units.
 

@@ -2,10 +2,10 @@
 -- accepted file has few blocks and wires.
 use Rattle.std.proofs.Math.Path.{◌≡◌, refl, sym, ap}
 use Rattle.std.proofs.Common.{◌∙◌, drop_of_length-le, drop-cons, le-leb}
-use Rattle.std.specs.Prelude.{Bool, true, cond, get_or, set, Result, Ok, Err, is_ok, IsErrAnd}
+use Rattle.std.specs.Prelude.{Bool, true, cond, get_or, Result, Ok, Err, is_ok, IsErrAnd}
 use Rattle.std.proofs.Math.Bool.{false}
 use mathlib.Core.List.{List, [], ◌∷◌, ◌++◌, map, flat_map}
-use Prim.Native.Nat.{ℕ, zero, suc, ◌+◌, ◌*◌, ◌/◌, ◌≤◌, ◌<◌}
+use Prim.Native.Nat.{ℕ, suc, ◌+◌, ◌*◌, ◌≤◌, ◌<◌}
 use native.Mathlib.Omega.{arith}
 use Rattle.std.proofs.Math.ListN.{length, drop, length-append}
 use Rattle.std.proofs.Math.Seq.{sets, length-sets}
@@ -24,7 +24,7 @@ use Rattle.port_tables.specs.declared.release.Release.{Release}
 use Rattle.theorems.proofs.CallLaws.{rel_run}
 use Rattle.theorems.specs.History.{run}
 use Rattle.files.specs.View.{View, rank_among, rank_wire, view_of}
-use Rattle.files.specs.Layout.{Record, block_of, wire_of, units_for, unbytes}
+use Rattle.files.specs.Layout.{Record, block_of, wire_of, unbytes}
 use Rattle.files.specs.Loading.{is_whole, is_laid, add_of, link_of, out_port, in_port, build_of, first_refusal, load_answer, load_answer_under}
 use Rattle.files.specs.BuildList.{add_pair, link_pair, build_numbers, list_build, build_after}
 use Rattle.files.specs.OrderLaws.{sorted_length}
@@ -36,9 +36,6 @@ use Rattle.files.specs.BuildSteps.{is_loaded, adds_few, first_refused}
 use Rattle.files.specs.declared.load.LoadError.{LoadError}
 use Rattle.files.specs.declared.load.LoadError.TheVariants.{BadSums, BadLayout}
 use Rattle.files.specs.declared.check.Shape.{Shape}
-
-pub two_numbers : (l : List ℕ) (i a b : ℕ) → set (set l i a) (i + 1) b ≡ sets l i (a ∷ b ∷ [])
-two_numbers l i a b = let e : i + 1 ≡ suc i = omega arith in rw e
 
 -- Pairs one after the other.
 
@@ -53,9 +50,6 @@ pub record Pairs {A : Type 0} (f : A → List ℕ) (l : List A) (numbers₀ : Li
   pub long : length numbers ≡ length numbers₀
 
 module _ {A : Type 0} {f : A → List ℕ} {l : List A} where
-  pub pairs_begin : (numbers : List ℕ) (at : ℕ) → Pairs f l numbers at numbers 0
-  pairs_begin numbers at = let e : at + 2 * 0 ≡ at = omega arith in record { same = ap (λ (k : ℕ). sets numbers k (flat_map f l)) e; long = refl }
-
   module _ {numbers₀ numbers : List ℕ} {at i : ℕ} (p : Pairs f l numbers₀ at numbers i) where
     pub pairs_turn : {numbers' : List ℕ} {k : ℕ} {x : A} → (d : A) → i < length l → get_or l i d ≡ x → length (f x) ≡ 2 → k ≡ at + 2 * i → numbers' ≡ sets numbers k (f x) → Pairs f l numbers₀ at numbers' (i + 1)
     unfolding flat_map
@@ -100,16 +94,6 @@ module _ {bytes : List ℕ} {n w : ℕ} (l : Laid bytes n w) where
       let d = (l.blocks_are).many in
       let e = (l.wires_are).many in
       omega arith
-
-  -- so few records that their numbers can be counted
-  pub laid_short : 4 * (n + w) ≤ length bytes + 8
-  unfolding units_for
-  laid_short = go n w (l.blocks_are) (l.wires_are)
-    where
-      go : (n w : ℕ) → BlocksRead bytes n → WiresRead bytes ((n + 62) / 63) w → 4 * (n + w) ≤ length bytes + 8
-      go zero zero b c = omega arith
-      go (suc n) zero b c = let h = b.there n (omega arith) in omega arith
-      go n (suc w) b c = let h = c.there w (omega arith) in omega arith
 
   pub listed_short : {numbers : List ℕ} → length numbers < 2 * (n + w) → numbers ≡ list_after (build_numbers (unbytes bytes)) numbers
   unfolding list_after

@@ -307,11 +307,6 @@ module _ (first second buffer : List ℕ) where
   refused (Ok n) e f = absurd e
   refused (Err t) e f = merge_done (ap (λ (x : MergeError). Err x) e ∙ sym f) refl
 
-  -- sums and layout, of the first and then of the second,
-  pub first_unlaid : {r : LoadError} {a : Result ℕ MergeError} → layout_answer first ≡ Err r → IsErrAnd a (λ t. t ≡ Load r) → (a ≡ merge_answer first second buffer) × (buffer ≡ merge_buffer first second buffer)
-  unfolding merge_answer
-  first_unlaid h e = refused _ e (rw h refl)
-
   pub second_unlaid : {blocks wires : ℕ} → Laid first blocks wires → {r : LoadError} {a : Result ℕ MergeError} → layout_answer second ≡ Err r → IsErrAnd a (λ t. t ≡ Load r) →
       (a ≡ merge_answer first second buffer) × (buffer ≡ merge_buffer first second buffer)
   unfolding merge_answer

@@ -19,8 +19,8 @@ use Rattle.multiportgraph.specs.CaseLaws.{add_cases}
 use Rattle.multiportgraph.specs.Graph.{empty_graph}
 use Rattle.multiportgraph.specs.WellFormed.{Fine, MultiWf}
 use Rattle.multiportgraph.specs.LinkCutLaws.{fine_empty}
-use Rattle.multiportgraph.specs.Space.{Room, room_of, overflows, add_works}
-use Rattle.multiportgraph.specs.SpaceLaws.{Spaced, room_is, room_added, add_space}
+use Rattle.multiportgraph.specs.Space.{Room, room_of, overflows, add_works, Spaced}
+use Rattle.multiportgraph.specs.SpaceLaws.{room_is, room_added, add_space}
 use Rattle.multiportgraph.specs.declared.multiportgraph.MultiPortGraph.{MultiPortGraph}
 use Rattle.port_tables.specs.declared.release.Release.{Release}
 use Rattle.multiportgraph.specs.declared.multiportgraph.NodeAdded.{NodeAdded}

@@ -42,9 +42,6 @@ unfolding flat_map
 records_eight [] = refl
 records_eight (x ∷ l) = let a = records_eight l in let b = length-append (record_bytes (record_of x)) (bytes_of_records l) in let c = record_eight x in omega arith
 
-pub records_begin : (l : List ℕ) (at : ℕ) (numbers : List ℕ) → Writing l at (bytes_of_records numbers) l (at + 8 * 0) (bytes_of_records (drop 0 numbers))
-records_begin l at numbers = let e : at + 8 * 0 ≡ at = omega arith in record { counted = omega arith; same = ap (λ (p : ℕ). sets l p (bytes_of_records numbers)) e; long = refl }
-
 module _ (numbers : List ℕ) (i : ℕ) {l₀ l : List ℕ} {at : ℕ} (w : Writing l₀ at (bytes_of_records numbers) l (at + 8 * i) (bytes_of_records (drop i numbers))) where
   pub record_turn : i < length numbers → {l' : List ℕ} → l' ≡ sets l (at + 8 * i) (record_bytes (record_of (get_or numbers i 0))) → Writing l₀ at (bytes_of_records numbers) l' (at + 8 * (i + 1)) (bytes_of_records (drop (i + 1) numbers))
   unfolding flat_map
@@ -212,11 +209,6 @@ module _ (kind : ℕ) where
     pub same : sets l p (units_said rest) ≡ sets l₀ at (units_said numbers)
     pub long : length l ≡ length l₀
 
-  pub laying_begins : (numbers : List ℕ) {rest : List ℕ} (l : List ℕ) (at : ℕ) {n : ℕ} → rest ≡ numbers → n ≡ 0 → Laying numbers rest l l at (at + 512 * n)
-  laying_begins numbers l at e z =
-      let p : at + 512 * 0 ≡ at = omega arith in
-      rw (e, z) (record { counted = omega arith; same = ap (λ (k : ℕ). sets l k (units_said numbers)) p; long = refl })
-
   module _ {numbers rest l₀ l : List ℕ} {at p : ℕ} (w : Laying numbers rest l₀ l at p) where
     pub laying_ends : length rest ≡ 0 → l ≡ sets l₀ at (units_said numbers)
     unfolding units_of units_from units_for
@@ -227,9 +219,6 @@ module _ (kind : ℕ) where
         ap (sets l p) (sym e) ∙ w.same
 
     module _ (part next : List ℕ) (some : 0 < length rest) (e : rest ≡ part ++ next) (n : length part ≡ min unit_records (length rest)) where
-      pub part_few : length part ≤ unit_records
-      part_few = omega arith
-
       pub unit_room : at + 512 * units_for (length numbers) ≤ length l₀ → p + 512 ≤ length l
       unfolding units_for
       unit_room r = let a = w.counted in let b = w.long in omega arith

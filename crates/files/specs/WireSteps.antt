@@ -3,15 +3,15 @@ use Rattle.std.specs.List.{list_all}
 use Rattle.std.specs.Prelude.{◌≡◌, refl, Bool, true, false, not, ◌&&◌, List, [], ◌∷◌, ℕ, suc, ◌+◌, ◌*◌, ◌/◌, ◌%◌, ◌≤◌, ◌<◌, ltb, length, get_or, drop}
 use Rattle.std.proofs.Math.Path.{sym, ap}
 use Rattle.std.proofs.Common.{◌∙◌, inl, inr, drop-cons, get_or-drop}
-use Rattle.std.proofs.Math.Bool.{and_assoc, and-false}
+use Rattle.std.proofs.Math.Bool.{and_assoc}
 use native.Mathlib.Omega.{arith}
 use Rattle.std.proofs.Math.Dec.{leb}
 use Rattle.std.proofs.Math.ListN.{drop_of_length-le}
-use borrow.Author.Tests.{ltb-true, ltb-false, lt-ltb, le-ltb, le-leb, lt-leb}
+use borrow.Author.Tests.{ltb-true, ltb-false, le-leb, lt-leb}
 use Rattle.port_tables.specs.Listing.{map_member}
 use Rattle.files.specs.View.{BlockPorts, RankWire, View}
 use Rattle.files.specs.Layout.{Record, field_at, units_for, block_of, wire_of, wire_record, record_at, unbytes, FieldsFit}
-use Rattle.files.specs.Loading.{unit_list, order_right, ranks_right, block_at, positions_right, units_right, view_right}
+use Rattle.files.specs.Loading.{unit_list, order_right, ranks_right, positions_right, units_right, view_right}
 use Rattle.files.specs.LaidLaws.{block_placed, wire_placed, all_units}
 use Rattle.files.specs.SoundLaws.{said_fits}
 use Rattle.files.specs.Forms.{number_of, wire_number}
@@ -67,34 +67,6 @@ module _ (bytes : List ℕ) (right : units_right (unit_list bytes) ≡ true) whe
 module _ (bytes : List ℕ) (blocks : ℕ) (r : Record) (read : BlocksRead bytes blocks) where
   abbrev all : List BlockPorts
   all = (unbytes bytes).blocks
-
-  pub source_wrong : blocks ≤ r.a → false ≡ wire_fits all (wire_of r)
-  unfolding wire_fits ranks_right
-  source_wrong h = let m = read.many in rw (le-ltb r.a (length all) (omega arith))
-
-  pub target_wrong : blocks ≤ r.c → false ≡ wire_fits all (wire_of r)
-  unfolding wire_fits ranks_right
-  target_wrong h = let m = read.many in rw (le-ltb r.c (length all) (omega arith), and-false (ltb r.a (length all)))
-
-  module _ (below : r.a < blocks) (under : r.c < blocks) (from to : Record) (isFrom : from ≡ record_in bytes (place_of 0 r.a)) (isTo : to ≡ record_in bytes (place_of 0 r.c)) where
-    outputs_are : from.b ≡ (block_at all r.a).outgoing
-    outputs_are = ap (λ (x : Record). x.b) isFrom ∙ sym (ap (λ (b : BlockPorts). b.outgoing) (read.each r.a below))
-
-    inputs_are : to.a ≡ (block_at all r.c).incoming
-    inputs_are = ap (λ (x : Record). x.a) isTo ∙ sym (ap (λ (b : BlockPorts). b.incoming) (read.each r.c under))
-
-    wire_tested : (s t : Bool) → s ≡ ltb r.b from.b → t ≡ ltb r.d to.a → (s && t) ≡ wire_fits all (wire_of r)
-    unfolding wire_fits ranks_right positions_right
-    wire_tested s t e f =
-        let m = read.many in
-        rw (lt-ltb r.a (length all) (omega arith), lt-ltb r.c (length all) (omega arith))
-        (λ j. (e ∙ ap (ltb r.b) outputs_are) j && (f ∙ ap (ltb r.d) inputs_are) j)
-
-    pub output_wrong : from.b ≤ r.b → false ≡ wire_fits all (wire_of r)
-    output_wrong h = wire_tested false _ (sym (le-ltb r.b from.b h)) refl
-
-    pub input_tested : r.b < from.b → ltb r.d to.a ≡ wire_fits all (wire_of r)
-    input_tested h = wire_tested true (ltb r.d to.a) (sym (lt-ltb r.b from.b h)) refl
 
 -- Wires one after the other.
 
@@ -157,9 +129,6 @@ module _ {bytes : List ℕ} {u n before i : ℕ} (r : WiresRead bytes u n) (w : 
       sym (ap (wires_fit (unbytes bytes).blocks before) e) ∙ w.rest
 
   module _ (h : i < n) where
-    pub wire_room : place_of u i + 8 ≤ length bytes
-    wire_room = r.there i h
-
     module _ {unit at number : ℕ} {one : Record} (is_unit : unit ≡ u) (is_at : at ≡ place_of unit i) (is_one : one ≡ record_in bytes at) (is_number : number ≡ number_of one) where
       abbrev next : RankWire
       next = wire_of one

@@ -25,6 +25,7 @@ pub(crate) fn word_at(bytes: &[u8], i: usize) -> u32
 }
 
 // Lays a field's two bytes from a byte position on.
+#[tactic(auto, unfolding(crate::specs::Layout::field_bytes), using(multiportgraph::specs::ListSteps::laid))]
 pub(crate) fn put_field(bytes: &mut [u8], i: usize, field: u16)
     requires { i + 2 ≤ length bytes.old }
     ensures { bytes.new ≡ sets bytes.old i (field_bytes field) }
@@ -33,6 +34,7 @@ pub(crate) fn put_field(bytes: &mut [u8], i: usize, field: u16)
 }
 
 // Lays a word's four bytes from a byte position on.
+#[tactic(auto, unfolding(crate::specs::Layout::word_bytes, crate::specs::Layout::field_bytes), using(crate::specs::ByteSteps::four_bytes, multiportgraph::specs::ListSteps::laid))]
 pub(crate) fn put_word(bytes: &mut [u8], i: usize, word: u32)
     requires { i + 4 ≤ length bytes.old }
     ensures { bytes.new ≡ sets bytes.old i (word_bytes word) }
@@ -44,6 +46,7 @@ pub(crate) fn put_word(bytes: &mut [u8], i: usize, word: u32)
 // A record stays one number until it is laid: the order of these numbers is that of the records, so that the library's sort serves with no order of our own,
 // and with no law that such an order is this one.
 // Stay quotients: `to_be_bytes` gives the fields in this order, but the bytes of each the other way around.
+#[tactic(auto, using(crate::specs::ByteSteps::record_laid))]
 pub(crate) fn put_record(bytes: &mut [u8], i: usize, number: u64)
     requires { i + 8 ≤ length bytes.old }
     ensures { bytes.new ≡ sets bytes.old i (record_bytes (record_of number)) }
@@ -79,6 +82,7 @@ pub(crate) fn record_at(bytes: &[u8], at: usize) -> Fields
 impl Fields {
     // A record as one number, its first field the most significant.
     // Stays a method: a `From` would say this clause in a law beside its function.
+    #[tactic(auto, unfolding(crate::specs::Forms::number_of))]
     pub(crate) fn number(self) -> u64
         ensures { result ≡ number_of (said self) }
     {

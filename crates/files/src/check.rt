@@ -10,6 +10,7 @@ use crate::units::{UNIT_RECORDS, sum_words};
 
 // The sum of a unit is that of the words before it.
 // That a unit has 512 bytes stays a clause, here and below: what `chunks_exact` lends is a slice, and making it an array is a step that can fail.
+#[tactic(auto, unfolding(crate::specs::Loading::sum_holds), using(crate::specs::CheckSteps::sum_is))]
 fn sum_holds(unit: &[u8]) -> bool
     requires { length unit.now ≡ 512 }
     ensures { result ≡ sum_holds unit.now }
@@ -18,6 +19,7 @@ fn sum_holds(unit: &[u8]) -> bool
 }
 
 // The length is that of whole units, and all sums are right.
+#[tactic(auto, unfolding(crate::specs::Loading::is_whole))]
 pub(crate) fn is_whole(file: &[u8]) -> bool
     ensures { result ≡ is_whole file.now }
 {
@@ -48,6 +50,7 @@ fn zeros_from(unit: &[u8], from: usize) -> bool
 }
 
 // The last two fields of each record are zero, as they are of a block's.
+#[tactic(auto, using(crate::specs::CheckSteps::zeros_tested))]
 fn block_zeros(records: &[u8]) -> bool
     requires { length records.now % 8 ≡ 0 }
     ensures { result ≡ list_all block_zeros (records_at (length records.now / 8) records.now) }
@@ -58,6 +61,7 @@ fn block_zeros(records: &[u8]) -> bool
 }
 
 // What a unit says by itself, before one of a kind, 0 for none: kind, count and zeros.
+#[tactic(auto, unfolding(crate::specs::LoadForms::unit_fits, crate::specs::Loading::zeros_right))]
 fn unit_right(unit: &[u8], next: u16) -> bool
     requires { length unit.now ≡ 512 }
     ensures { result ≡ unit_fits unit.now next }
@@ -89,6 +93,7 @@ pub struct Shape {
 
 // The shape of a file whose units are all right by themselves. From the last unit to the first: each is held against the kind of the one behind it, 0 for none. This stays a
 // number, as the file's own kinds are: units of any kind are held against it.
+#[tactic(auto, using(crate::specs::CheckSteps::shape_begins, crate::specs::CheckSteps::shape_blocks, crate::specs::CheckSteps::shape_wires))]
 pub(crate) fn shape_of(file: &[u8]) -> Option<Shape>
     requires { length file.now % 512 ≡ 0 }
     ensures { MatchOption result (units_right (unit_list file.now) ≡ false) (λ s. ShapeIs file.now s.blocks s.wires) }

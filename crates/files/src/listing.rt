@@ -18,6 +18,7 @@ use port_tables::release::Release;
 pub const BUILD_NUMBERS: usize = 2 * (NODE_SLOTS + MOST_WIRES);
 
 // Lays two numbers.
+#[tactic(auto, using(multiportgraph::specs::ListSteps::laid))]
 fn put_pair(numbers: &mut [u32], at: usize, a: u32, b: u32)
     requires { at + 2 ≤ length numbers.old }
     ensures { numbers.new ≡ sets numbers.old at (a ∷ b ∷ []) }
@@ -26,6 +27,7 @@ fn put_pair(numbers: &mut [u32], at: usize, a: u32, b: u32)
 }
 
 // Lists the adds. Laid by place, as the links are below: of chunks that are lent to be written, a proof keeps the length alone.
+#[tactic(auto, using(crate::specs::ListingSteps::pairs_end))]
 fn list_adds(numbers: &mut [u32], file: File)
     requires { 2 * file.shape.blocks ≤ length numbers.old }
     ensures { numbers.new ≡ sets numbers.old 0 (flat_map add_pair (unbytes file.entry.bytes.now).blocks) }
@@ -37,6 +39,7 @@ fn list_adds(numbers: &mut [u32], file: File)
 }
 
 // Lists the links, from a place on.
+#[tactic(auto, using(crate::specs::ListingSteps::pairs_end))]
 fn list_links(numbers: &mut [u32], from: usize, ports: Ports)
     requires { from + 2 * ports.file.shape.wires ≤ length numbers.old }
     ensures { numbers.new ≡ sets numbers.old from (flat_map (link_pair (unbytes ports.entry.file.bytes.now).blocks) (unbytes ports.entry.file.bytes.now).wires) }
@@ -48,6 +51,7 @@ fn list_links(numbers: &mut [u32], from: usize, ports: Ports)
 }
 
 // Lists the build of a file; a list that is too short stays as it was.
+#[tactic(auto, using(crate::specs::ListingSteps::listed_short))]
 fn list_laid(numbers: &mut [u32], file: File)
     requires { file.shape.blocks ≤ node_slots }
     ensures { numbers.new ≡ list_after (build_numbers (unbytes file.entry.bytes.now)) numbers.old }

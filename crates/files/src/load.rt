@@ -56,6 +56,7 @@ fn refused(release: Release, error: LoadError) -> FileLoaded
 }
 
 // Holds bytes against the layout of a file, sums first.
+#[tactic(auto, unfolding(crate::specs::Merging::layout_answer), using(crate::specs::WireSteps::blocks_read, crate::specs::WireSteps::wires_read, crate::specs::BuildSteps::err_says, crate::specs::BuildSteps::sums_wrong, crate::specs::BuildSteps::shape_found, crate::specs::BuildSteps::shape_missing, crate::specs::BuildSteps::view_wrong, crate::specs::BuildSteps::laid_is, crate::specs::BuildSteps::whole_length))]
 pub(crate) fn laid(bytes: &[u8]) -> Result<File, LoadError>
     ensures { MatchResult result (λ file. file.bytes.now ≡ bytes.now) (λ e. layout_answer bytes.now ≡ Err e) }
 {
@@ -71,6 +72,7 @@ pub(crate) fn laid(bytes: &[u8]) -> Result<File, LoadError>
 
 // Builds the wiring of a laid file for a release in a graph of its own, as far as the first add or link that is refused.
 // The table of first ports is filled here and in `list_laid`: a function that filled it and gave `Ports` would lend from what it was lent to change.
+#[tactic(auto, using(crate::specs::BuildSteps::err_says, crate::specs::BuildSteps::built_blocks))]
 fn build_over(graph: &mut MultiPortGraph, release: Release, file: File) -> Result<(), LoadError>
     requires { graph.old ≡ empty_graph release }
     ensures { MatchResult result (λ _. Built (empty_graph release) (build_of (unbytes file.entry.bytes.now)) graph.new) (λ e. first_refusal (empty_graph release) (build_of (unbytes file.entry.bytes.now)) ≡ Err e) }
@@ -95,6 +97,7 @@ pub(crate) fn build_answer(release: Release, file: File) -> Result<(), LoadError
 }
 
 // Builds the wiring of a laid file for a release.
+#[tactic(auto, using(crate::specs::BuildSteps::load_done))]
 fn build(release: Release, file: File) -> FileLoaded
     ensures { (result ≡ record { graph = load_graph release file.entry.bytes.now; answer = load_answer release file.entry.bytes.now }) × MultiWf result.graph }
 {

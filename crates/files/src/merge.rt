@@ -56,6 +56,7 @@ fn block_number(block: Fields) -> u64
 
 // The records of the blocks of a file, as numbers, in a list with a place for each.
 // Stays beside `read_wires`: one for both would take what reads a record as a closure, with its contract.
+#[tactic(auto, unfolding(port_tables::specs::Lists::range), using(crate::specs::MergeSteps::numbers_all))]
 fn read_blocks(file: File, numbers: &mut [u64])
     requires { length numbers.old ≡ file.shape.blocks }
     ensures { numbers.new ≡ map (block_read file.entry.bytes.now) (range 0 file.entry.shape.blocks) }
@@ -79,6 +80,7 @@ fn raised_number(wire: Fields, raise: u16) -> u64
 }
 
 // The records of the wires of a file, their ranks raised, as numbers, in a list with a place for each.
+#[tactic(auto, unfolding(port_tables::specs::Lists::range))]
 fn read_wires(file: File, raise: u16, numbers: &mut [u64])
     requires { RaisedFit file.bytes.now (units_for file.shape.blocks) file.shape.wires raise × (length numbers.old ≡ file.shape.wires) }
     ensures { numbers.new ≡ map (wire_read file.entry.bytes.now (units_for file.entry.shape.blocks) raise) (range 0 file.entry.shape.wires) }
@@ -108,6 +110,7 @@ impl<'a> Both<'a> {
     }
 
     // The length of the result.
+    #[tactic(auto, using(crate::specs::MergeSteps::result_length))]
     fn size(self) -> usize
         ensures { result ≡ length (merged_file self.entry.first.bytes.now self.entry.second.bytes.now) }
     {
@@ -143,6 +146,7 @@ impl<'a> Both<'a> {
     }
 
     // Lays the result from the buffer's start on.
+    #[tactic(auto, unfolding(crate::specs::Layout::file_length), using(crate::specs::MergeSteps::result_length))]
     fn put(self, buffer: &mut [u8])
         requires { length (merged_file self.first.bytes.now self.second.bytes.now) ≤ length buffer.old }
         ensures { buffer.new ≡ sets buffer.old 0 (merged_file self.entry.first.bytes.now self.entry.second.bytes.now) }
@@ -164,6 +168,7 @@ impl<'a> Both<'a> {
     }
 
     // Writes the result, which loads, where the buffer is long enough.
+    #[tactic(auto, unfolding(crate::specs::Merging::result_answer))]
     fn write(self, buffer: &mut [u8]) -> Result<usize, MergeError>
         ensures { (result ≡ result_answer (merged_file self.entry.first.bytes.now self.entry.second.bytes.now) buffer.old)
             × (buffer.new ≡ buffer_if result (merged_file self.entry.first.bytes.now self.entry.second.bytes.now) buffer.old) }
@@ -178,6 +183,7 @@ impl<'a> Both<'a> {
 }
 
 // Merges two files: the first, the second and the result must load for release 1.
+#[tactic(auto, unfolding(crate::specs::Merging::merge_answer, crate::specs::Merging::merge_buffer), using(crate::specs::MergeSteps::both_few))]
 fn merge_laid<'a>(first: File<'a>, second: File<'a>, buffer: &mut [u8]) -> Result<usize, MergeError>
     ensures { (result ≡ merge_answer first.entry.bytes.now second.entry.bytes.now buffer.old)
         × (buffer.new ≡ merge_buffer first.entry.bytes.now second.entry.bytes.now buffer.old) }
@@ -192,6 +198,7 @@ fn merge_laid<'a>(first: File<'a>, second: File<'a>, buffer: &mut [u8]) -> Resul
 // Writes two files as one to a lent buffer and answers the length of the result: the blocks of the second behind those of the first, its wires with
 // their ranks raised by the first's block count. Sums and layout of both are held first; then both and the result must load for release 1. Bytes
 // past the result keep their contents, and a refused merge writes nothing.
+#[tactic(auto, unfolding(crate::specs::Merging::merge_answer, crate::specs::Merging::merge_buffer))]
 pub fn merge<'a>(first: &'a [u8], second: &'a [u8], buffer: &mut [u8]) -> Result<usize, MergeError>
     ensures { (result ≡ merge_answer first.now second.now buffer.old)
         × (buffer.new ≡ merge_buffer first.now second.now buffer.old) }

@@ -53,6 +53,7 @@ impl<'a> Ports<'a> {
     }
 
     // The ports of a wire by its number: an output, and the input that it goes to.
+    #[tactic(auto, using(crate::specs::BuildSteps::linkable))]
     pub(crate) fn ends(self, i: usize) -> (PortIndex, PortIndex)
         requires { i < self.file.shape.wires }
         ensures { (result.0.0 ≡ out_port (unbytes self.entry.file.bytes.now).blocks (wire_of (record_in self.entry.file.bytes.now (place_of (units_for self.entry.file.shape.blocks) i))))

@@ -27,7 +27,7 @@ pub(crate) fn fill_ranks(listed: &[u32], ranks: &mut [u32])
 
 // The records of the blocks of a listing, as numbers.
 // Stays beside that of wires: one for both would take what makes a number of an item as a closure, with its contract.
-#[tactic(auto, using(crate::specs::TurnSteps::turned))]
+#[tactic(auto, using(crate::specs::TurnSteps::turned, crate::specs::TurnSteps::part_below, crate::specs::TurnSteps::part_number))]
 pub(crate) fn block_numbers(listed: &[u32], numbers: &mut [u64])
     requires { (blocks_in listed.now ≤ length numbers.old) × BlocksFit listed.now }
     ensures { numbers.new ≡ turns (block_turn listed.now) 0 (blocks_in listed.now) numbers.old }
@@ -58,7 +58,7 @@ fn wire_number<'a>(wire: &'a [u32], ranks: &'a [u32]) -> u64
 }
 
 // The records of the wires of a listing, as numbers.
-#[tactic(auto, using(crate::specs::TurnSteps::turned))]
+#[tactic(auto, using(crate::specs::TurnSteps::turned, crate::specs::TurnSteps::part_below, crate::specs::TurnSteps::wire_part))]
 pub(crate) fn wire_numbers<'a>(ends: &'a [u32], ranks: &'a [u32], numbers: &mut [u64])
     requires { (wires_in ends.now ≤ length numbers.old) × WiresFit ends.now ranks.now }
     ensures { numbers.new ≡ turns (wire_turn ends.now ranks.now) 0 (wires_in ends.now) numbers.old }

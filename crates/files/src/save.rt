@@ -68,6 +68,7 @@ fn put_sorted(numbers: &mut [u64], buffer: &mut [u8], at: usize)
 }
 
 // Lays the units of the wires of a listing from a place on, by the ranks of their blocks.
+#[tactic(auto, using(crate::specs::SaveSteps::wire_records))]
 fn put_wires<'a>(
     listed: &'a [u32],
     ends: &'a [u32],
@@ -86,7 +87,7 @@ fn put_wires<'a>(
 
 // Lays the file of a graph from the buffer's start on, by lists of these lengths: what the listings of blocks and of wires take, and as many numbers of records.
 // Three lengths, and the constants above: a const argument cannot be computed.
-#[tactic(auto, using(multiportgraph::specs::ListReads::few_blocks, crate::specs::SaveSteps::visible_links_few))]
+#[tactic(auto, unfolding(multiportgraph::specs::Calls::visible_nodes, multiportgraph::specs::Calls::visible_links), using(multiportgraph::specs::ListReads::few_blocks, crate::specs::SaveSteps::visible_links_few, crate::specs::SaveSteps::blocks_taken, crate::specs::SaveSteps::wires_taken, crate::specs::SaveSteps::saved))]
 fn write_by<const LISTED: usize, const ENDS: usize, const NUMBERS: usize>(
     graph: &MultiPortGraph,
     buffer: &mut [u8],
@@ -119,7 +120,7 @@ fn write_by<const LISTED: usize, const ENDS: usize, const NUMBERS: usize>(
 }
 
 // Writes a graph to a lent buffer and answers the file's length; bytes past it keep their contents, and so does a buffer that is too short.
-#[tactic(auto, using(multiportgraph::specs::ListReads::few_blocks, crate::specs::SaveSteps::visible_links_few))]
+#[tactic(auto, unfolding(multiportgraph::specs::Calls::visible_nodes, multiportgraph::specs::Calls::visible_links), using(multiportgraph::specs::ListReads::few_blocks, crate::specs::SaveSteps::visible_links_few, crate::specs::SaveSteps::save_answered))]
 pub fn save(graph: &MultiPortGraph, buffer: &mut [u8]) -> Result<usize, BufferShort>
     requires { MultiWf graph.now }
     ensures { (result ≡ save_answer graph.now buffer.old)

@@ -42,6 +42,7 @@ pub(crate) fn sum_words(words: &[u8]) -> u32
 
 // Lays a unit of these records. The kind stays a number: the definitions say `units_of 1` and `units_of 2`, and an enum would be turned into that number by the only function
 // that reads it, this one.
+#[tactic(auto, using(crate::specs::UnitSteps::unit_laid))]
 fn put_unit(bytes: &mut [u8], at: usize, kind: u16, records: &[u64])
     requires { (at + 512 ≤ length bytes.old) × (length records.now ≤ unit_records) }
     ensures { bytes.new ≡ sets bytes.old at (unit kind (map record_of records.now)) }
@@ -54,6 +55,7 @@ fn put_unit(bytes: &mut [u8], at: usize, kind: u16, records: &[u64])
 }
 
 // Lays all units of a kind; answers the place after the last.
+#[tactic(auto, using(crate::specs::UnitSteps::laying_ends, crate::specs::UnitSteps::unit_room))]
 pub(crate) fn put_units(bytes: &mut [u8], at: usize, kind: u16, records: &[u64]) -> usize
     requires { at + 512 * units_for (length records.now) ≤ length bytes.old }
     ensures { (result ≡ at + 512 * units_for (length records.now))

@@ -18,6 +18,7 @@ pub(crate) fn place(unit: usize, i: usize) -> usize
 }
 
 // A wire goes from an output of a block of the file to an input of one.
+#[tactic(auto, unfolding(crate::specs::LoadForms::wire_fits, crate::specs::Loading::ranks_right, crate::specs::Loading::positions_right))]
 fn wire_fits(file: &[u8], blocks: usize, wire: Fields) -> bool
     requires { BlocksRead file.now blocks }
     ensures { result ≡ wire_fits (unbytes file.now).blocks (wire_of (said wire)) }

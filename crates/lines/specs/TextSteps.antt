@@ -1,5 +1,5 @@
 -- What the proofs of functions over texts cite.
-use Rattle.std.specs.Prelude.{◌≡◌, Bool, not, ◌&&◌, ◌||◌, List, [], ◌∷◌, ◌⊎◌, MatchBool, ℕ, suc, ◌+◌, ◌-◌, ◌*◌, ◌≤◌, ◌<◌, ltb, get_or, take, drop}
+use Rattle.std.specs.Prelude.{◌≡◌, Bool, not, ◌&&◌, List, [], ◌∷◌, ◌⊎◌, MatchBool, ℕ, suc, ◌+◌, ◌-◌, ◌*◌, ◌≤◌, ◌<◌, ltb, get_or, take, drop}
 use Rattle.std.proofs.Math.Path.{refl, sym}
 use Rattle.std.proofs.Common.{ap, ◌∙◌, inl, inr, add-one, drop_of_length-le}
 use Rattle.std.proofs.Math.Bool.{true, false, cond}
@@ -7,10 +7,9 @@ use Rattle.std.specs.Bool.{beq}
 use native.Mathlib.Omega.{arith}
 use Rattle.std.proofs.Math.Dec.{eqb, leb}
 use Rattle.std.proofs.Math.ListN.{length}
-use borrow.Author.Tests.{eqb-false, eq-eqb, ne_eqb, lt-ltb, le-ltb, le-leb, lt-leb, ltb-true, ltb-false}
-use Rattle.lines.specs.Text.{is_blank, bytes_from, part_of, without_return, line_of, leading, pass_over, same_bytes, is_digit, with_digit, all_digits, decimal_after, number_said, number_or_zero, no_value, value_or_none}
-use Rattle.std.specs.Prelude.{zero, Option, None, Some, unwrap_or}
-use Rattle.std.specs.Option.{SomeIff}
+use borrow.Author.Tests.{eq-eqb, ne_eqb, lt-ltb, le-ltb, le-leb, lt-leb, ltb-true, ltb-false}
+use Rattle.lines.specs.Text.{is_blank, bytes_from, part_of, without_return, line_of, leading, same_bytes, is_digit, with_digit, all_digits, decimal_after, number_said, no_value}
+use Rattle.std.specs.Prelude.{zero, None, Some, unwrap_or}
 use Rattle.std.specs.List.{position, position_or_len}
 use Rattle.std.proofs.lemmas.List.{take_all, length-drop}
 use Rattle.std.proofs.lemmas.List.Sums.{prefix_len-le-length}
@@ -88,23 +87,6 @@ module _ (line : List ℕ) where
 
 -- Blanks, one after the other.
 
-module _ (b : ℕ) where
-  pub blank_space : b ≡ 32 → true ≡ is_blank b
-  unfolding is_blank
-  blank_space e = rw (eq-eqb b 32 e) refl
-
-  pub blank_other : 9 ≤ b → b < 11 → true ≡ is_blank b
-  unfolding is_blank
-  blank_other h k = rw (ne_eqb b 32 (λ e. omega arith)) (go (eqb b 9) refl)
-    where
-      go : (t : Bool) → eqb b 9 ≡ t → true ≡ (t || eqb b 10)
-      go true e = refl
-      go false e = sym (eq-eqb b 10 (let n = eqb-false b 9 e in omega arith))
-
-  pub no_blank : (b ≡ 32 → ⊥) → (b ≡ 9 → ⊥) → (b ≡ 10 → ⊥) → false ≡ is_blank b
-  unfolding is_blank
-  no_blank h k l = rw (ne_eqb b 32 h, ne_eqb b 9 k, ne_eqb b 10 l) refl
-
 -- the first place at which a test passes, or the length
 first_or_all : (p : ℕ → Bool) (l : List ℕ) → unwrap_or (position p l) (length l) ≡ position_or_len p l
 first_or_all p l = go (ltb (position_or_len p l) (length l)) refl
@@ -122,25 +104,20 @@ leading_is blanks (b ∷ l) = go (beq (is_blank b) blanks) (leading_is blanks l)
     go true e = omega arith
     go false e = refl
 
-module _ (blanks : Bool) (l : List ℕ) {r : Option ℕ} (e : r ≡ position (λ b. not (beq (is_blank b) blanks)) l) where
-  pub leading_found : unwrap_or r (length l) ≡ leading blanks l
-  leading_found = ap (λ (o : Option ℕ). unwrap_or o (length l)) e ∙ first_or_all (λ b. not (beq (is_blank b) blanks)) l ∙ leading_is blanks l
+module _ (blanks : Bool) (l : List ℕ) where
+  pub leading_read : leading blanks l ≡ unwrap_or (position (λ b. not (beq (is_blank b) blanks)) l) (length l)
+  leading_read = sym (first_or_all (λ b. not (beq (is_blank b) blanks)) l ∙ leading_is blanks l)
 
-  pub leading_short : unwrap_or r (length l) ≤ length l
-  leading_short = let h = leading_found in let q = leading_is blanks l in let k = prefix_len-le-length (λ (b : ℕ). not (not (beq (is_blank b) blanks))) l in omega arith
+  pub leading_short : leading blanks l ≤ length l
+  leading_short = let q = leading_is blanks l in let k = prefix_len-le-length (λ (b : ℕ). not (not (beq (is_blank b) blanks))) l in omega arith
 
-module _ (text : List ℕ) (from : ℕ) (blanks : Bool) where
-  -- no text is left
-  pub passed_none : (length text < from) ⊎ (length text < length text) → from ≡ pass_over text from blanks
-  unfolding pass_over leading
-  passed_none h = ⊎_elim (λ k. rw (drop_of_length-le text {i = from} (omega arith)) (omega arith)) (λ k. absurd (omega arith)) h
+-- what is left of a text, and that nothing is left
+pub rest_all : (text : List ℕ) (from : ℕ) → take (length text - from) (drop from text) ≡ drop from text
+rest_all text from = take_all (length text - from) (drop from text) (let l = length-drop from text in omega arith)
 
-  -- what is left is passed
-  pub passed_by : {n : ℕ} {rest : List ℕ} → n ≡ leading blanks rest → rest ≡ take (length text - from) (drop from text) → from + n ≡ pass_over text from blanks
-  unfolding pass_over
-  passed_by {n} {rest} e h =
-      let all = take_all (length text - from) (drop from text) (let l = length-drop from text in omega arith) in
-      ap (λ (k : ℕ). from + k) (e ∙ ap (leading blanks) (h ∙ all))
+pub none_leading : (text : List ℕ) (from : ℕ) (blanks : Bool) → length text < from → leading blanks (drop from text) ≡ 0
+unfolding leading
+none_leading text from blanks h = rw (drop_of_length-le text {i = from} (omega arith))
 
 -- Words, byte by byte.
 
@@ -192,43 +169,14 @@ module _ (text other : List ℕ) where
   same_all places n at place true m e p q h = rw (sym p, sym q) (same_passed n at place (λ k l. rw (e k l) at (h k 0 (omega arith) (omega arith))))
   same_all places n at place false m e p q (k, l, h) = let i : k < n = omega arith in rw (sym p, sym q) (same_stopped n at place k i (rw (e k i) at (h 0)))
 
-  pub same_unlong : (at n place m : ℕ) → (n ≡ m → ⊥) → eqb n m ≡ same_bytes (bytes_from text at n) (bytes_from other place m)
-  same_unlong at n place m h = rw (ne_eqb n m h) (same_long (bytes_from text at n) (bytes_from other place m) (λ e. h (sym (bytes_long text at n) ∙ e ∙ bytes_long other place m)))
+pub same_unlong : (text other : List ℕ) (at n place m : ℕ) → (n ≡ m → ⊥) → same_bytes (bytes_from text at n) (bytes_from other place m) ≡ false
+same_unlong text other at n place m h = sym (same_long (bytes_from text at n) (bytes_from other place m) (λ e. h (sym (bytes_long text at n) ∙ e ∙ bytes_long other place m)))
 
 -- Digits, one after the other.
 
 no_digits : (t : Bool) (x y : ℕ) → cond (t && false) x y ≡ y
 no_digits true x y = refl
 no_digits false x y = refl
-
--- One digit more.
-
-module _ (v b : ℕ) where
-  pub digit_none : no_value ≤ v → no_value ≡ with_digit v b
-  unfolding with_digit
-  digit_none h = rw (le-ltb v no_value h) refl
-
-  pub digit_low : b < 48 → no_value ≡ with_digit v b
-  unfolding with_digit is_digit
-  digit_low h = rw (lt-leb 48 b h) (sym (no_digits (ltb v no_value) (v * 10 + (b - 48)) no_value))
-
-  pub digit_high : 57 < b → no_value ≡ with_digit v b
-  unfolding with_digit is_digit
-  digit_high h = rw (le-leb 48 b (omega arith), lt-leb b 57 h) (sym (no_digits (ltb v no_value) (v * 10 + (b - 48)) no_value))
-
-  module _ (small : v < no_value) (low : 48 ≤ b) (high : b ≤ 57) where
-    pub digit_more : v * 10 + (b - 48) < no_value → v * 10 + (b - 48) ≡ with_digit v b
-    unfolding with_digit is_digit
-    digit_more h = rw (lt-ltb v no_value small, le-leb 48 b low, le-leb b 57 high, lt-ltb (v * 10 + (b - 48)) no_value h) refl
-
-    pub digit_too_many : no_value ≤ v * 10 + (b - 48) → no_value ≡ with_digit v b
-    unfolding with_digit is_digit
-    digit_too_many h = rw (lt-ltb v no_value small, le-leb 48 b low, le-leb b 57 high, le-ltb (v * 10 + (b - 48)) no_value h) refl
-
--- The sum is checked.
-pub digit_added : (v b : ℕ) (r : Option ℕ) → v < no_value → 48 ≤ b → b ≤ 57 → SomeIff r (v * 10 + (b - 48) < no_value) (v * 10 + (b - 48)) → value_or_none r ≡ with_digit v b
-digit_added v b None small low high h = digit_too_many v b small low high (omega arith)
-digit_added v b (Some x) small low high h = h.1 ∙ digit_more v b small low high h.0
 
 unfoldable pub said_after : ℕ → List ℕ → ℕ
 said_after v [] = v
@@ -272,8 +220,3 @@ module _ (text : List ℕ) (value at to : ℕ) where
 pub said_number : (l : List ℕ) → said_after 0 l ≡ number_said l
 unfolding number_said
 said_number l = said_is l 0 (omega arith)
-
-pub number_or : (l : List ℕ) (r : Option ℕ) → value_or_none r ≡ number_said l → unwrap_or r 0 < no_value → unwrap_or r 0 ≡ number_or_zero l
-unfolding number_or_zero
-number_or l None e h = rw (le-ltb (number_said l) no_value (rw (← e) (omega arith))) refl
-number_or l (Some x) e h = rw (lt-ltb (number_said l) no_value (rw (← e) h)) e

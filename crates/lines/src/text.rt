@@ -68,6 +68,7 @@ fn first_other(text: &[u8], blanks: bool) -> Option<usize>
 }
 
 // The end of the blanks from a place on, or of what is no blank.
+#[tactic(auto, unfolding(crate::specs::Text::pass_over), using(crate::specs::TextSteps::leading_read, crate::specs::TextSteps::leading_short, crate::specs::TextSteps::rest_all, crate::specs::TextSteps::none_leading))]
 fn pass_over(text: &[u8], from: usize, blanks: bool) -> usize
     ensures { result ≡ pass_over text.now from blanks }
 {
@@ -104,6 +105,7 @@ impl Span {
 }
 
 // Whether a word of one text is a word of another. Stays a test of the places, not `==` of two parts: a span may lie outside its text and reads 0 there.
+#[tactic(auto, using(crate::specs::TextSteps::same_unlong))]
 pub fn same_word(text: &[u8], word: Span, other: &[u8], name: Span) -> bool
     ensures { result ≡ same_bytes (bytes_of text.now word) (bytes_of other.now name) }
 {
@@ -120,7 +122,7 @@ pub fn is_word(text: &[u8], word: Span, name: &[u8]) -> bool
 
 // One digit more, as long as the number is at most 4,294,967,295.
 // Stays a test and a subtraction: tried with `to_digit` of the library, and the check found no proof.
-#[tactic(auto, using(crate::specs::TextSteps::digit_low, crate::specs::TextSteps::digit_high))]
+#[tactic(auto, unfolding(crate::specs::Text::with_digit, crate::specs::Text::is_digit))]
 fn with_digit(value: u32, byte: u8) -> Option<u32>
     ensures { value_or_none result ≡ with_digit value byte }
 {
@@ -143,6 +145,7 @@ pub fn number_of(text: &[u8], word: Span) -> Option<u32>
 }
 
 // The same; 0 where it says none. Stays a number: the line's words were read as numbers before.
+#[tactic(auto, unfolding(crate::specs::Text::number_or_zero))]
 pub fn number_or_zero(text: &[u8], word: Span) -> u32
     ensures { result ≡ number_or_zero (bytes_of text.now word) }
 {

@@ -23,8 +23,8 @@ use Rattle.multiportgraph.specs.LinkCutLaws.{CutDone, CutSays, CutSaid}
 use Rattle.multiportgraph.specs.Lookups.{direction_seen, direction_of}
 use Rattle.multiportgraph.specs.Presumed.{OnBlock}
 use Rattle.multiportgraph.specs.Reading.{is_split, seen, standing}
-use Rattle.multiportgraph.specs.Space.{Work, cut_works, cut_seen_works}
-use Rattle.multiportgraph.specs.SpaceLaws.{Spaced, spaced_done, own_room, no_work, cuts_nothing, cut_fits, unsplit_room, unlink_keeps_room}
+use Rattle.multiportgraph.specs.Space.{Work, cut_works, cut_seen_works, Spaced}
+use Rattle.multiportgraph.specs.SpaceLaws.{spaced_done, own_room, no_work, cuts_nothing, cut_fits, unsplit_room, unlink_keeps_room}
 use Rattle.multiportgraph.specs.WellFormed.{MultiWf, Fine}
 use Rattle.multiportgraph.specs.declared.multiportgraph.MultiPortGraph.{MultiPortGraph}
 use Rattle.multiportgraph.specs.declared.multiportgraph.PortUnlinked.{PortUnlinked}

@@ -15,8 +15,7 @@ use Rattle.std.specs.List.{filter}
 use Rattle.port_tables.specs.Entries.{reversed, ports_on, node_of}
 use Rattle.portgraph.specs.Lookups.{num_ports, count_in}
 use Rattle.portgraph.specs.Model as model
-use Rattle.portgraph.specs.Model.{Model, nowhere, to, Slots, gone, live, Valid, slot_of, count_of, first_of, side_start}
-use Rattle.portgraph.specs.LinkLaws.{Vacant}
+use Rattle.portgraph.specs.Model.{Model, nowhere, to, Slots, gone, live, Valid, slot_of, count_of, first_of, side_start, Vacant}
 use Rattle.portgraph.specs.GoodSlots.{zero_is_not_one, same_place_lem, slots_apart, slot_in_block, joined_is_valid}
 use Rattle.portgraph.specs.PlaceLaws.{port_of_place, slot_cases, vacant_is_dead, port_link_to, port_link_none, port_index_is, port_offset_is, meta_of_node, gone_has_no_meta}
 use Rattle.port_tables.specs.declared.direction.Direction.{Direction}

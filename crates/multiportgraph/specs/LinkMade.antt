@@ -14,7 +14,7 @@ use Rattle.multiportgraph.specs.HiddenNodes as hiding
 use Rattle.multiportgraph.specs.CodeForms.{Prepared, prepared_as}
 use Rattle.multiportgraph.specs.WellFormed.{MultiWf}
 use Rattle.multiportgraph.specs.PrepareSteps.{lower_wf}
-use Rattle.multiportgraph.specs.LinkSteps.{is_ready, others_stay, still_wf, first_ready_lem, seen_told}
+use Rattle.multiportgraph.specs.LinkSteps.{is_ready, others_stay, still_wf, first_ready_lem, seen_told, seen_back}
 use Rattle.multiportgraph.specs.Named.{joined_at}
 use Rattle.multiportgraph.specs.NamedLaws.{both_joined}
 use Rattle.multiportgraph.specs.InputSteps.{parts_untaken}
@@ -129,38 +129,30 @@ module _ (m : MultiPortGraph) {a : ℕ} {d : Direction} {b : ℕ} {e : Direction
       both_done = parts_untaken (both_same (prepare g b e) refl)
 
 -- How the ports are seen.
-module _ {m : MultiPortGraph} {a : ℕ} (b : ℕ) {d : Direction} (w : OnBlock m a d) {s : SeenPort} (eb : s ≡ seen_as (seen m b)) where
-  pub call_first : s ≡ seen_port.Dead → {g : MultiPortGraph} {y : Result (SubportIndex × SubportIndex) Refusal} → (g ≡ (link_first m b (prepare m a d)).graph) × (y ≡ (link_first m b (prepare m a d)).answer) → (g ≡ (link_pair_if false present m a b).graph) × (y ≡ (link_pair_if false present m a b).answer)
-  call_first t h =
-      let p = w.is in
-      let q = seen_told (seen m b) eb t in
-      let z : link_first m b (prepare m a d) ≡ link_pair_if false present m a b = (λ i. link_seen m a b (sym p i) (sym q i)) ∙ sym (link_cases present m a b) in
-      parts_untaken z h
+module _ {m : MultiPortGraph} {a : ℕ} {d : Direction} (w : OnBlock m a d) (b : ℕ) {s : SeenPort} (eb : s ≡ seen_as (seen m b)) where
+  call_is : {u : SeenPort} → s ≡ u → link_pair_if false present m a b ≡ link_seen m a b (visible w.node d) (seen_back u)
+  call_is t = link_cases present m a b ∙ (λ i. link_seen m a b (w.is i) (seen_told (seen m b) eb t i))
 
-  pub call_second_hidden : s ≡ seen_port.Hidden → (m ≡ (link_pair_if false present m a b).graph) × (Err (HiddenPort (port# b)) ≡ (link_pair_if false present m a b).answer)
-  unfolding link_pair_if
-  call_second_hidden t = let p = w.is in let q = seen_told (seen m b) eb t in link_parts (rw (p, q))
+  pub call_first : s ≡ seen_port.Dead → link_pair_if false present m a b ≡ link_first m b (prepare m a d)
+  call_first t = call_is t
+
+  pub call_second_hidden : s ≡ seen_port.Hidden → link_pair_if false present m a b ≡ record { graph = m; answer = Err (HiddenPort (port# b)) }
+  call_second_hidden t = call_is t
 
   module _ {n : NodeIndex} {e : Direction} (t : s ≡ seen_port.Visible n e) where
-    pub second_on : OnBlock m b e
+    second_on : OnBlock m b e
     second_on = record { wf = w.wf; node = n.0; is = seen_told (seen m b) eb t }
 
     pub both_on : BothOnBlock m a d b e
     both_on = record { first = w; second = second_on }
 
-    pub call_both : {g : MultiPortGraph} {y : Result (SubportIndex × SubportIndex) Refusal} → (g ≡ (link_live m a d b e (prepare m a d)).graph) × (y ≡ (link_live m a d b e (prepare m a d)).answer) → (g ≡ (link_pair_if false present m a b).graph) × (y ≡ (link_pair_if false present m a b).answer)
-    call_both h =
-        let p = w.is in
-        let q = seen_told (seen m b) eb t in
-        let z : link_live m a d b e (prepare m a d) ≡ link_pair_if false present m a b = (λ i. link_seen m a b (sym p i) (sym q i)) ∙ sym (link_cases present m a b) in
-        parts_untaken z h
+    pub call_both : link_live m a d b e (prepare m a d) ≡ link_pair_if false present m a b
+    call_both = sym (call_is t)
 
     -- a port with itself has one side
-    pub call_self : a ≡ b → {g : MultiPortGraph} {y : Result (SubportIndex × SubportIndex) Refusal} → (g ≡ (link_live m a d a d (prepare m a d)).graph) × (y ≡ (link_live m a d a d (prepare m a d)).answer) → (g ≡ (link_pair_if false present m a b).graph) × (y ≡ (link_pair_if false present m a b).answer)
-    call_self r h =
-        let p = w.is in
+    pub call_self : a ≡ b → link_live m a d a d (prepare m a d) ≡ link_pair_if false present m a b
+    call_self r =
         let q = seen_told (seen m b) eb t in
-        let k : visible w.node d ≡ visible n.0 e = sym p ∙ (ap (seen m) r ∙ q) in
+        let k : visible w.node d ≡ visible n.0 e = sym w.is ∙ (ap (seen m) r ∙ q) in
         let side : d ≡ e = cc in
-        let same : link_live m a d a d (prepare m a d) ≡ link_live m a d b e (prepare m a d) = λ i. link_live m a d (r i) (side i) (prepare m a d) in
-        call_both (parts_untaken same h)
+        (λ i. link_live m a d (r i) (side i) (prepare m a d)) ∙ call_both

@@ -11,7 +11,7 @@ use Rattle.multiportgraph.specs.Reading.{position_of, is_hidden, seen}
 use Rattle.multi_tables.specs.Forms.{Port, visible}
 use Rattle.multiportgraph.specs.Wires.{is_block}
 use Rattle.multiportgraph.specs.Walks.{Start, started, refused, start_at_node, is_seen}
-use Rattle.multiportgraph.specs.Lookups.{direction_seen, direction_of, node_seen, node_of, offset_seen, offset_of, fan_out_seen, port_fan_out, contains_port_of, counted, num_ports_of, capacity_of, port_found, port_index_of}
+use Rattle.multiportgraph.specs.Lookups.{offset_seen, offset_of, fan_out_seen, port_fan_out, contains_port_of, counted, num_ports_of, capacity_of, port_found, port_index_of}
 use Rattle.multiportgraph.specs.declared.multiportgraph.MultiPortGraph.{MultiPortGraph}
 use Rattle.multi_tables.specs.declared.answers.Refusal.{Refusal}
 use Rattle.multi_tables.specs.declared.answers.Refusal.TheVariants.{UnknownNode, HiddenNode}
@@ -62,6 +62,12 @@ module _ (m : MultiPortGraph) (n : ℕ) where
   pub start_at : (f : Result NodeMeta Refusal) → block_found m n ≡ f → start_of f ≡ start_at_node m n
   start_at f e = ap start_of (sym e) ∙ start_is
 
+  pub start_refused : {r : Refusal} → block_found m n ≡ Err r → start_at_node m n ≡ refused r
+  start_refused e = sym (start_at (Err _) e)
+
+  pub start_made : {k : NodeMeta} → block_found m n ≡ Ok k → start_at_node m n ≡ started
+  start_made e = sym (start_at (Ok _) e)
+
   pub block_at : (f : Result NodeMeta Refusal) → block_found m n ≡ f → found_block f ≡ is_block m n
   block_at f e = ap found_block (sym e) ∙ block_is
 
@@ -86,22 +92,17 @@ module _ (m : MultiPortGraph) (n : ℕ) where
       ap Ok (f ∙ ap capacity_in (sym (meta_is k e)))
       ∙ ap (λ s. counted s (capacity_in (meta_at m.graph n))) (start_at (Ok k) e)
 
-  pub index_at : (o : PortOffset) (f : Result NodeMeta Refusal) (p : Option PortIndex) → block_found m n ≡ f → p ≡ port_index m.graph n o
-      → port_found (start_of f) p ≡ port_index_of m n o
+  pub index_refused : (o : PortOffset) (r : Refusal) → block_found m n ≡ Err r → Err r ≡ port_index_of m n o
   unfolding port_index_of
-  index_at o f p e h = ap (port_found (start_of f)) h ∙ ap (λ s. port_found s (port_index m.graph n o)) (start_at f e)
+  index_refused o r e = ap (λ s. port_found s (port_index m.graph n o)) (start_at (Err r) e)
+
+  pub index_found : (o : PortOffset) (k : NodeMeta) (p : Option PortIndex) → block_found m n ≡ Ok k → p ≡ port_index m.graph n o → Ok p ≡ port_index_of m n o
+  unfolding port_index_of
+  index_found o k p e h = ap Ok h ∙ ap (λ s. port_found s (port_index m.graph n o)) (start_at (Ok k) e)
 
 -- Ports.
 
 module _ (m : MultiPortGraph) (p : ℕ) where
-  pub direction_at : (s : Port) → seen m p ≡ s → direction_seen p s ≡ direction_of m p
-  unfolding direction_of
-  direction_at s e = ap (direction_seen p) (sym e)
-
-  pub node_at : (s : Port) → seen m p ≡ s → node_seen p s ≡ node_of m p
-  unfolding node_of
-  node_at s e = ap (node_seen p) (sym e)
-
   pub offset_at : (s : Port) → seen m p ≡ s → offset_seen m p s ≡ offset_of m p
   unfolding offset_of
   offset_at s e = ap (offset_seen m p) (sym e)

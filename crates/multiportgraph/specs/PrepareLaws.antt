@@ -24,9 +24,9 @@ use Rattle.portgraph.specs.Model.{Model, Far, nowhere, to, Slots, live, Valid, s
 use Rattle.port_tables.specs.declared.direction.Direction.{Direction}
 use Rattle.port_tables.specs.declared.direction.Direction.TheVariants.{Incoming, Outgoing}
 use Rattle.multiportgraph.specs.Reading.{is_hidden, is_split, has_link, port_of, copy_node, subports}
-use Rattle.multiportgraph.specs.WellFormed.{inner#, copy_place, Fine, Seen, lift, outer, IsEnd, WireIn}
+use Rattle.multiportgraph.specs.WellFormed.{inner#, copy_place, Fine, Seen, lift, outer, IsEnd, WireIn, HasEnd}
 use Rattle.multiportgraph.specs.Ends.{Hangs, split_has_copy, one_copy, unsplit_no_copy, lift_place, port_of_lem, count_of_lem, linked_is, unlinked_is, outer_apart, outer_of_unsplit, outer_of_subport, outer_of_block}
-use Rattle.multiportgraph.specs.SplitLaws.{HasEnd, PreparedEnd, AllLinked, NoSpace, no_subport, PreparedSays, end_of_wire, wire_of_end, split_says}
+use Rattle.multiportgraph.specs.SplitLaws.{PreparedEnd, AllLinked, NoSpace, no_subport, PreparedSays, end_of_wire, wire_of_end, split_says}
 use Rattle.multiportgraph.specs.RecountLaws.{grow_law}
 use Rattle.multiportgraph.specs.declared.multiportgraph.MultiPortGraph.{MultiPortGraph}
 use Rattle.port_tables.specs.Places.{Place, Wire}

@@ -35,12 +35,12 @@ use Rattle.portgraph.specs.declared.resize.PortsSet.{PortsSet}
 use Rattle.multiportgraph.specs.Reading.{is_hidden, is_split, copy_side, port_number, port_of}
 use Rattle.multi_tables.specs.MarkLaws.{length_lay_marks, lay_kept_in, lay_kept_out, lay_new, lay_old, lay_else}
 use Rattle.multi_tables.specs.MarkMoves.{within_cases}
-use Rattle.multiportgraph.specs.WellFormed.{inner#, copy_place, Fine, Marked, copy_port, main_port_lem, lift, outer, IsEnd, WireIn, Seen, SameBlocks, SameWires, subports_of_slot}
+use Rattle.multiportgraph.specs.WellFormed.{inner#, copy_place, Fine, Marked, copy_port, main_port_lem, lift, outer, IsEnd, WireIn, Seen, SameBlocks, SameWires, subports_of_slot, HasEnd}
 use Rattle.multiportgraph.specs.Needs.{need_of}
 use Rattle.multiportgraph.specs.NeedStays.{alike_same, need_alike}
 use Rattle.multiportgraph.specs.Ends.{Hangs, other_side, side_cases, count_of_lem, copy_valid, end_side, ends_join_ends, outer_apart}
 use Rattle.multiportgraph.specs.HiddenStays.{copy_side_is, same_copy, true_not_false, wire_again}
-use Rattle.multiportgraph.specs.SplitLaws.{HasEnd, KeptEnd, PreparedEnd}
+use Rattle.multiportgraph.specs.SplitLaws.{KeptEnd, PreparedEnd}
 use Rattle.multiportgraph.specs.declared.multiportgraph.MultiPortGraph.{MultiPortGraph}
 use Rattle.port_tables.specs.Places.{Wire, flag}
 use Rattle.multiportgraph.specs.Graph.{with_subports}

@@ -1,9 +1,9 @@
 -- Refusal 10 by the work it speaks of: the free node slots and blocks with the used lengths (`Room`), what each work takes or
 -- gives back without any limit, and the works of each call, in order, up to the answer that it reaches.
-use Rattle.std.specs.Prelude.{Bool, cond, ◌||◌, ℕ, ◌+◌, ◌*◌, eqb, leb, ltb, Option, Some, None}
+use Rattle.std.specs.Prelude.{Bool, cond, ◌||◌, ℕ, ◌+◌, ◌*◌, eqb, leb, ltb, Option, Some, None, ◌≡◌, true, false, ◌↔◌}
 use mathlib.Core.List.{List, [], ◌∷◌, ◌++◌, flat_map}
 use Rattle.port_tables.specs.Limits.{node_slots, port_slots}
-use Rattle.portgraph.specs.Model.{Model}
+use Rattle.portgraph.specs.Model.{Model, Good, Holds}
 use Rattle.portgraph.specs.Meaning as meaning
 use Rattle.port_tables.specs.Entries.{same_side}
 use Rattle.portgraph.specs.Meaning.{upd, rest, growth}
@@ -17,6 +17,7 @@ use Rattle.multiportgraph.specs.Refusals.{input_taken}
 use Rattle.multiportgraph.specs.declared.multiportgraph.MultiPortGraph.{MultiPortGraph}
 use Rattle.multiportgraph.specs.Tidy.{subports_left}
 use Rattle.multiportgraph.specs.HiddenNodes.{copies_in, copies_dropped, Prepared, ready, full, lowest_free, prepare}
+use Rattle.portgraph.specs.declared.portgraph.PortGraph.{PortGraph}
 
 -- free node slots and free blocks of each size, the one freed last first, and the used lengths of the tables
 pub record Room : Type 0 where
@@ -202,3 +203,17 @@ abbrev pub tidy_seen_works : MultiPortGraph → ℕ → Port → List Work
 tidy_seen_works m p dead = []
 tidy_seen_works m p hidden = []
 tidy_seen_works m p (visible n d) = tidy_works m p d
+
+-- A graph has a room.
+pub record HasRoom (g : PortGraph) (r : Room) : Type 0 where
+  pub model : Model
+  pub good : Good model
+  pub holds : Holds g model
+  pub is : room_of model ≡ r
+
+-- What a call has to do with space: it is refused with 10 exactly if its works overflow, and then changes nothing; else the room
+-- is that after the works.
+pub record Spaced (m : MultiPortGraph) (M : Model) (works : List Work) (refused : Type 0) (m' : MultiPortGraph) : Type 0 where
+  pub no_room_iff : refused ↔ (overflows (room_of M) works ≡ true)
+  pub unchanged : refused → m' ≡ m
+  pub room_after : overflows (room_of M) works ≡ false → HasRoom m'.graph (after_works (room_of M) works)

@@ -1,7 +1,7 @@
 -- Refusal 10 is given exactly where the works of a call would lengthen a table past its limit, and after an accepted call the
 -- room is that after its works.
 use Rattle.portgraph.specs.Chains.{chain_one}
-use Rattle.std.specs.Prelude.{◌≡◌, Bool, cond, not, ◌||◌, ◌↔◌, ℕ, zero, suc, ◌+◌, ◌*◌, ◌≤◌, ◌<◌, eqb, leb, ltb, get_or, set, Option, Some, None, Result, Ok, Err}
+use Rattle.std.specs.Prelude.{◌≡◌, Bool, cond, not, ◌||◌, ℕ, zero, suc, ◌+◌, ◌*◌, ◌≤◌, ◌<◌, eqb, leb, ltb, get_or, set, Option, Some, None, Result, Ok, Err}
 use Rattle.std.proofs.Math.Path.{refl, sym, ap, subst, transport}
 use Rattle.std.proofs.Common.{◌∙◌, inl, inr, arith, ltb-true, leb-true, leb-false, eqb-true, lt-ltb, le-ltb, le-leb, ne_eqb}
 use Rattle.std.proofs.Math.Bool.{true, false}
@@ -49,7 +49,7 @@ use Rattle.multiportgraph.specs.Tidy.{subports_left, left_incoming, left_outgoin
 use Rattle.multiportgraph.specs.TidyLaws.{DropWithin, no_change, in_block, left_within}
 use Rattle.multiportgraph.specs.RecountLaws.{Recount, SomeRecount, set_recounts, slot_on_side, place_among}
 use Rattle.multiportgraph.specs.SetLaws.{resize_loosens}
-use Rattle.multiportgraph.specs.Space.{Room, room_of, Work, tidy_works, tidy_seen_works, take_node, take_block, give_node, give_block, block_taken, after_work, after_works, on_the_way, nodes_past, ports_past, nodes_short, ports_short, overflows, add_works, gone_works, split_works, move_works, recount_works, grow_works, reuse_works, prepare_works, second_works, link_seen_works, link_works, link_clean_seen_works, link_clean_works, copies_gone, set_meta_works, set_works, cut_works, remove_works, remove_meta_works, told_works}
+use Rattle.multiportgraph.specs.Space.{Room, room_of, Work, tidy_works, tidy_seen_works, take_node, take_block, give_node, give_block, block_taken, after_work, after_works, on_the_way, nodes_past, ports_past, nodes_short, ports_short, overflows, add_works, gone_works, split_works, move_works, recount_works, grow_works, reuse_works, prepare_works, second_works, link_seen_works, link_works, link_clean_seen_works, link_clean_works, copies_gone, set_meta_works, set_works, cut_works, remove_works, remove_meta_works, told_works, HasRoom, Spaced}
 use Rattle.multiportgraph.specs.declared.multiportgraph.MultiPortGraph.{MultiPortGraph}
 use Rattle.multi_tables.specs.declared.answers.Refusal.{Refusal}
 use Rattle.multi_tables.specs.declared.answers.Refusal.TheVariants.{BadOffset, TooManyPorts, UnknownNode, HiddenNode, MovesTooShort, NoRoom, IncompatibleDirections, InputWired}
@@ -169,13 +169,6 @@ room_of_graph {g} {M} {N} h k =
     let d : M.port_len ≡ N.port_len = sym h.port_len ∙ k.port_len in
     λ i. record { free_nodes = a i; free_blocks = λ s. b s i; node_len = c i; port_len = d i }
 
--- A graph has a room.
-pub record HasRoom (g : PortGraph) (r : Room) : Type 0 where
-  pub model : Model
-  pub good : Good model
-  pub holds : Holds g model
-  pub is : room_of model ≡ r
-
 pub room_is : {g : PortGraph} {r : Room} {M : Model} → HasRoom g r → Holds g M → room_of M ≡ r
 room_is h k = room_of_graph k h.holds ∙ h.is
 
@@ -286,13 +279,6 @@ add_node_space {g} {M} good holds i o few =
         )
     go true true false e p q = (said true false p q, refl)
     go true false b e p q = (said false b p q, refl)
-
--- What a call has to do with space: it is refused with 10 exactly if its works overflow, and then changes nothing; else the room
--- is that after the works.
-pub record Spaced (m : MultiPortGraph) (M : Model) (works : List Work) (refused : Type 0) (m' : MultiPortGraph) : Type 0 where
-  pub no_room_iff : refused ↔ (overflows (room_of M) works ≡ true)
-  pub unchanged : refused → m' ≡ m
-  pub room_after : overflows (room_of M) works ≡ false → HasRoom m'.graph (after_works (room_of M) works)
 
 pub spaced_done : {m : MultiPortGraph} {M : Model} {works : List Work} {refused : Type 0} {m' : MultiPortGraph} → (refused → ⊥) → overflows (room_of M) works ≡ false → HasRoom m'.graph (after_works (room_of M) works) → Spaced m M works refused m'
 spaced_done never e r = record { no_room_iff = (λ c. absurd (never c), λ t. absurd (zero_is_not_one (cc))); unchanged = λ c. absurd (never c); room_after = λ t. r }

@@ -39,17 +39,13 @@ use Rattle.multiportgraph.specs.Reading.{is_hidden, is_split, copy_side, port_of
 use Rattle.multiportgraph.specs.Needs.{need_of}
 use Rattle.multiportgraph.specs.NeedStays.{Alike, alike_same, alike_linked, need_alike}
 use Rattle.multi_tables.specs.TableReads.{far_in, hang_on, copy_at, subports_at}
-use Rattle.multiportgraph.specs.WellFormed.{inner#, copy_place, Copy, Marked, copy_port, main_port_lem, Fine, Seen, lift, lift_far, outer, IsEnd, WireIn, SameBlocks, SameWires, subports_of_slot}
+use Rattle.multiportgraph.specs.WellFormed.{inner#, copy_place, Copy, Marked, copy_port, main_port_lem, Fine, Seen, lift, lift_far, outer, IsEnd, WireIn, SameBlocks, SameWires, subports_of_slot, HasEnd}
 use Rattle.multiportgraph.specs.Ends.{ends_join_ends, unsplit_no_copy, outer_of_subport, outer_of_block, not_reversed, side_cases}
 use Rattle.multiportgraph.specs.HiddenStays.{same_copy, same_wire, wire_again}
 use Rattle.multiportgraph.specs.declared.multiportgraph.MultiPortGraph.{MultiPortGraph}
 use Rattle.port_tables.specs.Places.{Place, Wire, flag}
 use Rattle.multiportgraph.specs.HiddenNodes.{copy_incoming, copy_outgoing, Prepared, ready, full, split, split_by, split_port, split_graph, split_under}
 use Rattle.multiportgraph.specs.Ends.{twice_reversed}
-
--- a wire has an end at a place
-abbrev pub HasEnd : Wire → Place → Type 0
-HasEnd w p = (w.out ≡ p) ⊎ (w.into ≡ p)
 
 -- a free end that stays as it is
 pub record KeptEnd (m : MultiPortGraph) (M : Model) (m' : MultiPortGraph) (M' : Model) (v : model.InnerPlace) : Type 0 where

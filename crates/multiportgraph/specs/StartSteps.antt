@@ -22,6 +22,7 @@ use Rattle.port_tables.specs.Entries.{port#}
 use Rattle.port_tables.specs.declared.direction.Direction.{Direction}
 use Rattle.port_tables.specs.declared.index.NodeIndex.{NodeIndex}
 use Rattle.multi_tables.specs.declared.answers.Refusal.{Refusal}
+use Rattle.multiportgraph.specs.Lookups.{node_seen, node_of, direction_seen, direction_of, offset_seen, offset_of, fan_out_seen, port_fan_out}
 use Rattle.multiportgraph.specs.Walks.{is_seen, Start, started, refused, start_at_node, start_between, start_seen, start_at_port}
 use Rattle.multiportgraph.specs.declared.multiportgraph.MultiPortGraph.{MultiPortGraph}
 use Rattle.multi_tables.specs.declared.answers.Refusal.TheVariants.{UnknownNode, HiddenNode, UnknownPort, HiddenPort}
@@ -56,6 +57,22 @@ module _ (m : MultiPortGraph) where
     pub block_told : {A : Type 0} (f : Port → Result A Refusal) (r : Refusal) → f dead ≡ Err (UnknownPort (port# p)) → f hidden ≡ Err (HiddenPort (port# p))
         → block_port m.graph.port_meta m.copy_node p ≡ Err r → Err r ≡ f (seen m p)
     block_told f r g h e = block_refused m.graph.port_meta m.copy_node p f r g h e ∙ ap f (seen_read p long)
+
+    pub node_refused : (r : Refusal) → block_port m.graph.port_meta m.copy_node p ≡ Err r → Err r ≡ node_of m p
+    unfolding node_of
+    node_refused r e = block_told (node_seen p) r refl refl e
+
+    pub direction_refused : (r : Refusal) → block_port m.graph.port_meta m.copy_node p ≡ Err r → Err r ≡ direction_of m p
+    unfolding direction_of
+    direction_refused r e = block_told (direction_seen p) r refl refl e
+
+    pub offset_refused : (r : Refusal) → block_port m.graph.port_meta m.copy_node p ≡ Err r → Err r ≡ offset_of m p
+    unfolding offset_of
+    offset_refused r e = block_told (offset_seen m p) r refl refl e
+
+    pub fan_out_refused : (r : Refusal) → block_port m.graph.port_meta m.copy_node p ≡ Err r → Err r ≡ port_fan_out m p
+    unfolding port_fan_out
+    fan_out_refused r e = block_told (fan_out_seen m p) r refl refl e
 
     pub block_is : (n : NodeIndex) (d : Direction) → block_port m.graph.port_meta m.copy_node p ≡ Ok (n, d) → seen m p ≡ visible n.0 d
     block_is n d e = sym (seen_read p long) ∙ block_found m.graph.port_meta m.copy_node p n d e

@@ -113,3 +113,7 @@ none x = false
 -- no wire changed
 abbrev pub SameWires : MultiPortGraph → Model → MultiPortGraph → Model → Type 0
 SameWires m M m' M' = Wiring m M m' M' none []
+
+-- a wire has an end at a place
+abbrev pub HasEnd : Wire → Place → Type 0
+HasEnd w p = (w.out ≡ p) ⊎ (w.into ≡ p)

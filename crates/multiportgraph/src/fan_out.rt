@@ -32,7 +32,7 @@ fn fan_out_sum(tables: WireTables<'_>, from: usize, end: usize) -> usize
 
 impl MultiPortGraph {
     // How many wires a port has, on either side; 0 for one that is not linked.
-    #[tactic(auto, using(port_tables::specs::TableSteps::with_numbers, crate::specs::FanOutSteps::fan_out_at_port, crate::specs::StartSteps::block_is, crate::specs::OwnTables::read_off))]
+    #[tactic(auto, using(port_tables::specs::TableSteps::with_numbers, crate::specs::FanOutSteps::fan_out_at_port, crate::specs::StartSteps::block_is, crate::specs::StartSteps::fan_out_refused, crate::specs::StartSteps::passed_told, crate::specs::OwnTables::read_off))]
     pub fn port_fan_out(&self, port: PortIndex) -> Result<usize, Refusal>
         requires { MultiWf self.now }
         ensures { (result ≡ port_fan_out self.now port.0) × (count_numbers result ≡ count_numbers (port_fan_out self.now port.0)) }

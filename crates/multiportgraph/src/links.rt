@@ -101,7 +101,7 @@ impl MultiPortGraph {
 
     // The first port is live, and no input that has a wire is refused: how the second is seen. Not `block_port`: a second port that is not live is refused
     // only after the first end is prepared.
-    #[tactic(auto, using(crate::specs::NamedLaws::seen_as_lem, crate::specs::LinkMade::both_on))]
+    #[tactic(auto, using(crate::specs::NamedLaws::seen_as_lem, crate::specs::LinkMade::both_on, crate::specs::LinkMade::call_first))]
     fn link_seen(
         &mut self,
         a: SidedPort,

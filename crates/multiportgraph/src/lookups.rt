@@ -37,6 +37,7 @@ impl MultiPortGraph {
     }
 
     // The side of a port.
+    #[tactic(auto, unfolding(crate::specs::Lookups::direction_of), using(crate::specs::StartSteps::block_is, crate::specs::StartSteps::direction_refused, crate::specs::StartSteps::passed_told, port_tables::specs::TableSteps::with_numbers))]
     pub fn port_direction(&self, port: PortIndex) -> Result<Direction, Refusal>
         ensures { (result ≡ direction_of self.now port.0) × (direction_numbers result ≡ direction_numbers (direction_of self.now port.0)) }
     {
@@ -45,6 +46,7 @@ impl MultiPortGraph {
     }
 
     // The block that has a port.
+    #[tactic(auto, unfolding(crate::specs::Lookups::node_of), using(crate::specs::StartSteps::block_is, crate::specs::StartSteps::node_refused, crate::specs::StartSteps::passed_told, port_tables::specs::TableSteps::with_numbers))]
     pub fn port_node(&self, port: PortIndex) -> Result<NodeIndex, Refusal>
         ensures { (result ≡ node_of self.now port.0) × (node_numbers result ≡ node_numbers (node_of self.now port.0)) }
     {
@@ -53,7 +55,7 @@ impl MultiPortGraph {
     }
 
     // The side and position of a port.
-    #[tactic(auto, using(port_tables::specs::TableSteps::with_numbers, crate::specs::LookupSteps::offset_found, crate::specs::StartSteps::block_is))]
+    #[tactic(auto, using(port_tables::specs::TableSteps::with_numbers, crate::specs::LookupSteps::offset_found, crate::specs::StartSteps::block_is, crate::specs::StartSteps::offset_refused, crate::specs::StartSteps::passed_told))]
     pub fn port_offset(&self, port: PortIndex) -> Result<PortOffset, Refusal>
         ensures { (result ≡ offset_of self.now port.0) × (offset_numbers result ≡ offset_numbers (offset_of self.now port.0)) }
     {
@@ -65,6 +67,7 @@ impl MultiPortGraph {
     }
 
     // The port at a side and position of a block.
+    #[tactic(auto, using(crate::specs::LookupSteps::index_refused, crate::specs::LookupSteps::index_found, crate::specs::StartSteps::passed_told, port_tables::specs::TableSteps::with_numbers))]
     pub fn port_index(
         &self,
         node: NodeIndex,

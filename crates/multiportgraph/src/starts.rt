@@ -39,6 +39,7 @@ impl MultiPortGraph {
     }
 
     // Starts a walk over the ports of a block on one side or both.
+    #[tactic(auto, using(crate::specs::LookupSteps::start_refused, crate::specs::LookupSteps::start_made, crate::specs::StartSteps::passed_told, port_tables::specs::TableSteps::with_numbers))]
     pub fn ports(&self, node: NodeIndex, sides: Sides) -> Result<NodePorts, Refusal>
         ensures { (result ≡ start_node_ports self.now node sides) × (node_ports_start_numbers result ≡ node_ports_start_numbers (start_node_ports self.now node sides)) }
     {
@@ -51,6 +52,7 @@ impl MultiPortGraph {
     }
 
     // Starts a walk over the subports of a block on one side or both.
+    #[tactic(auto, using(crate::specs::LookupSteps::start_refused, crate::specs::LookupSteps::start_made, crate::specs::StartSteps::passed_told, port_tables::specs::TableSteps::with_numbers, crate::specs::StartSteps::held_first))]
     pub fn subports(&self, node: NodeIndex, sides: Sides) -> Result<NodeSubports, Refusal>
         ensures { (result ≡ start_subports self.now node sides) × (node_subports_start_numbers result ≡ node_subports_start_numbers (start_subports self.now node sides)) }
     {
@@ -75,6 +77,7 @@ impl MultiPortGraph {
     }
 
     // Starts a walk over the links of a block; links to the ports of a range are left out.
+    #[tactic(auto, using(crate::specs::LookupSteps::start_refused, crate::specs::LookupSteps::start_made, crate::specs::StartSteps::passed_told, port_tables::specs::TableSteps::with_numbers, crate::specs::StartSteps::held_first))]
     pub fn links(
         &self,
         node: NodeIndex,
@@ -93,6 +96,7 @@ impl MultiPortGraph {
     }
 
     // Starts a walk over the neighbours of a block; with the flag, links to its own outgoing ports are left out.
+    #[tactic(auto, using(crate::specs::LookupSteps::start_refused, crate::specs::LookupSteps::start_made, crate::specs::StartSteps::passed_told, port_tables::specs::TableSteps::with_numbers, crate::specs::StartSteps::held_first))]
     pub fn neighbours(
         &self,
         node: NodeIndex,

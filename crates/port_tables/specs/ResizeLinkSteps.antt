@@ -1,14 +1,13 @@
 -- Steps that the proofs of these functions cite: rounding up, and links of ports that are dropped or moved.
-use Rattle.std.specs.Prelude.{◌≡◌, refl, List, [], ◌∷◌, ◌++◌, ℕ, zero, suc, ◌≤◌, ◌*◌, ◌/◌, ◌^◌, ◌<◌, ◌+◌, ◌-◌, min, max, length, set}
+use Rattle.std.specs.Prelude.{◌≡◌, refl, List, [], ◌∷◌, ◌++◌, ℕ, zero, suc, ◌≤◌, ◌*◌, ◌/◌, ◌^◌, ◌<◌, ◌+◌, max, length, set}
 use Rattle.std.specs.Int.{IsPowerOfTwo}
 use Rattle.std.proofs.Common.{◌∙◌, sym, ap, arith, le-leb}
 use Rattle.std.proofs.lemmas.List.Edits.{sets}
 use Rattle.std.proofs.lemmas.Bool.{lt-leb}
 use Rattle.std.proofs.lemmas.Nat.{pow_pos}
 use Rattle.std.proofs.Math.Nat.{pow-suc, pow-succ', mul_assoc, one-mul, le-mul_of_pos_right}
-use Rattle.port_tables.specs.ResizeLinks.{doubled, round_up, drop_incoming, drop_links, drop_count, first_slot, drop_told}
-use Rattle.port_tables.specs.Tables.{cut, drop_events, at, cut_count, cut_range}
-use Rattle.port_tables.specs.declared.node_entry.NodeMeta.{NodeMeta}
+use Rattle.port_tables.specs.ResizeLinks.{doubled, round_up}
+use Rattle.port_tables.specs.Tables.{cut, drop_events, at, cut_count}
 use Rattle.port_tables.specs.TableSteps.{link_count_at_most_one}
 
 -- Rounding up.
@@ -55,53 +54,24 @@ sets_append l i (x ∷ xs) ys =
     let e : i + suc (length xs) ≡ suc i + length xs = omega arith in
     rw e (sets_append (set l i x) (suc i) xs ys)
 
--- two runs of events in the move list, the second after the n events of the first
-pub told_after : (m m' m'' : List ℕ) (n : ℕ) (xs ys : List ℕ) → length xs ≡ 3 * n → m' ≡ sets m 0 xs → m'' ≡ sets m' (3 * n) ys → m'' ≡ sets m 0 (xs ++ ys)
-told_after m m' m'' n xs ys long e f =
-    let h : 3 * n ≡ 0 + length xs = omega arith in
-    f ∙ (rw (e, h) (sets_append m 0 xs ys))
-
 pub length_drop_events : (t : List ℕ) (p n : ℕ) → length (drop_events t p n) ≡ 3 * n
 unfolding drop_events
 length_drop_events t p zero = refl
 length_drop_events t p (suc n) = let h = length_drop_events (cut t p) (suc p) n in omega arith
 
+-- what is told after n ports that were dropped
+pub told_after : (m t : List ℕ) (p n : ℕ) (l : List ℕ) → sets (sets m 0 (drop_events t p n)) (3 * n) l ≡ sets m 0 (drop_events t p n ++ l)
+told_after m t p n l =
+    let long = length_drop_events t p n in
+    let h : 3 * n ≡ 0 + length (drop_events t p n) = omega arith in
+    rw h (sets_append m 0 (drop_events t p n) l)
+
 -- Single steps of the code.
 
-cut_count_small : (t : List ℕ) (p n : ℕ) → cut_count t p n ≤ n
+pub cut_count_small : (t : List ℕ) (p n : ℕ) → cut_count t p n ≤ n
 unfolding cut_count
 cut_count_small t p zero = omega arith
 cut_count_small t p (suc n) =
     let h = cut_count_small (cut t p) (suc p) n in
     let l = link_count_at_most_one (at t p) in
     omega arith
-
-pub few_cuts : (t : List ℕ) (p n a : ℕ) → a ≡ cut_count t p n → a ≤ n
-few_cuts t p n a e = let h = cut_count_small t p n in omega arith
-
--- What the leaves leave, from what each of their calls leaves. The numbers that the code reads off the node: f, oi, oo and ki, ko, the ports that stay.
-
-pub drop_done : (t t' t'' : List ℕ) (m : NodeMeta) (i o f oi oo ki ko a z : ℕ)
-    → f ≡ first_slot m → oi ≡ m.incoming → oo ≡ m.outgoing → ki ≡ min oi i → ko ≡ min oo o
-    → (a ≡ cut_count t (f + ki) (oi - ki)) × (t' ≡ cut_range t (f + ki) (oi - ki))
-    → (z ≡ cut_count t' (f + oi + ko) (oo - ko)) × (t'' ≡ cut_range t' (f + oi + ko) (oo - ko))
-    → (a + z ≡ drop_count t m i o) × (t'' ≡ drop_links t m i o)
-unfolding drop_count drop_links drop_incoming
-drop_done t t' t'' m i o f oi oo ki ko a z ef ei eo eki eko first second = (
-  rw (← ef, ← ei, ← eo, ← eki, ← eko, first.0, second.0, first.1),
-  rw (← ef, ← ei, ← eo, ← eki, ← eko, second.1, first.1),
-)
-
-pub drop_both_done : (t t' t'' b b' b'' : List ℕ) (m : NodeMeta) (i o f oi oo ki ko a z : ℕ)
-    → f ≡ first_slot m → oi ≡ m.incoming → oo ≡ m.outgoing → ki ≡ min oi i → ko ≡ min oo o
-    → (a ≡ cut_count t (f + ki) (oi - ki)) × (t' ≡ cut_range t (f + ki) (oi - ki)) × (b' ≡ sets b (3 * 0) (drop_events t (f + ki) (oi - ki)))
-    → (z ≡ cut_count t' (f + oi + ko) (oo - ko)) × (t'' ≡ cut_range t' (f + oi + ko) (oo - ko)) × (b'' ≡ sets b' (3 * (oi - ki)) (drop_events t' (f + oi + ko) (oo - ko)))
-    → (a + z ≡ drop_count t m i o) × (t'' ≡ drop_links t m i o) × (b'' ≡ sets b 0 (drop_told t m i o))
-unfolding drop_told drop_incoming
-drop_both_done t t' t'' b b' b'' m i o f oi oo ki ko a z ef ei eo eki eko first second =
-    let done = drop_done t t' t'' m i o f oi oo ki ko a z ef ei eo eki eko (first.0, first.1) (second.0, second.1) in (
-      done.0,
-      done.1,
-      rw (← ef, ← ei, ← eo, ← eki, ← eko, ← first.1)
-          (told_after b b' b'' (oi - ki) (drop_events t (f + ki) (oi - ki)) (drop_events t' (f + oi + ko) (oo - ko)) (length_drop_events t (f + ki) (oi - ki)) first.2 second.2),
-    )

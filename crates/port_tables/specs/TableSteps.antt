@@ -1,17 +1,14 @@
 -- What single steps and single turns of a loop do to the port tables.
--- A law of a step says which definition its stores amount to; a law of a turn takes one port off the work that is left.
-use Rattle.std.specs.Prelude.{◌≡◌, refl, List, [], ◌∷◌, ◌++◌, Bool, true, false, cond, ℕ, ◌<◌, ◌≤◌, zero, suc, ◌+◌, ◌-◌, ◌*◌, get_or, set, length, take, drop, eqb, Option, Some, None, Result, Ok, Err}
-use Rattle.std.specs.Option.{ok_or}
+-- A law of a step says which definition its stores amount to; a law of a range takes one port off it.
+use Rattle.std.specs.Prelude.{◌≡◌, refl, List, [], ◌∷◌, ◌++◌, Bool, true, false, cond, ℕ, ◌<◌, ◌≤◌, zero, suc, ◌+◌, ◌-◌, get_or, set, length, take, drop, eqb, Result, Err}
 use Rattle.std.specs.Result.{IsErrAnd}
 use Rattle.std.proofs.lemmas.Result.{err_from_is_err_and}
-use Rattle.std.proofs.Common.{ap, ◌∙◌, arith, length-drop, suc-add, zero-add, add-zero, lt-ltb, le-ltb, le-leb, ne_eqb, eq-eqb}
+use Rattle.std.proofs.Common.{add-one, ap, ◌∙◌, arith, length-drop, suc-add, zero-add, lt-ltb, le-ltb, le-leb, ne_eqb, eq-eqb}
 use Rattle.std.proofs.Math.ListN.{replicate}
 use Rattle.std.proofs.lemmas.List.Edits.{sets}
-use Rattle.std.proofs.lemmas.Bool.{lt-leb}
 use Rattle.std.proofs.Math.Seq.{length-take-le}
-use Rattle.std.proofs.Math.Nat.{sub-zero}
 use Rattle.port_tables.specs.Limits.{port_slots, no_port}
-use Rattle.port_tables.specs.Tables.{at, put, put_head, fill, fill_range, link_both, cut_far, cut, link_count, told_link, move_port, chain_block, cut_range, cut_count, move_up, transfer, drop_events, move_up_events, move_down_events, move_down, shift, shift_events, moved_at}
+use Rattle.port_tables.specs.Tables.{at, put, put_head, fill, fill_range, link_both, cut_far, cut, link_count, told_link, move_port, chain_block, cut_range, cut_count, move_up, transfer, drop_events, move_up_events, move_down_events, move_down}
 
 -- Reading and storing.
 pub at_inside : (t : List ℕ) (s : ℕ) → s < port_slots → get_or t s 0 ≡ at t s
@@ -25,10 +22,6 @@ at_outside t s h = rw (le-ltb s port_slots h)
 pub put_inside : (t : List ℕ) (s v : ℕ) → s < port_slots → set t s v ≡ put t s v
 unfolding put
 put_inside t s v h = rw (lt-ltb s port_slots h)
-
-pub put_outside : (t : List ℕ) (s v : ℕ) → port_slots ≤ s → t ≡ put t s v
-unfolding put
-put_outside t s v h = rw (le-ltb s port_slots h)
 
 pub put_head_nothing : (t : List ℕ) (n v : ℕ) → n ≤ 0 → t ≡ put_head t n v
 unfolding put_head
@@ -67,10 +60,6 @@ part_filled t new i m n v e h f =
 pub fill_range_done : (t t' : List ℕ) (i i' n k v : ℕ) → i' ≡ i → k ≡ n → i + n ≤ port_slots → t' ≡ fill t i' k v → t' ≡ fill_range t i n v
 unfolding fill_range
 fill_range_done t t' i i' n k v e f h j = rw (j, e, f, le-leb (i + n) port_slots h)
-
-pub fill_range_outside : (t : List ℕ) (i n v : ℕ) → port_slots < i + n → t ≡ fill_range t i n v
-unfolding fill_range
-fill_range_outside t i n v h = rw (lt-leb (i + n) port_slots h)
 
 -- Links.
 pub linked_both : (t : List ℕ) (a b : ℕ) → a < port_slots → b < port_slots → put (put t a (b + 1)) b (a + 1) ≡ link_both t a b
@@ -113,93 +102,90 @@ stored_event m e a b d = let f : e + 1 ≡ suc e = omega arith in let g : e + 2 
 pub left_one : (k n : ℕ) → k < n → n - k ≡ suc (n - (k + 1))
 left_one k n h = omega arith
 
--- One turn of each loop, with k of the n ports done: what is left after it, on the changed tables, amounts to what was left before it.
-module _ (k n : ℕ) (h : k < n) where
-  next : (p : ℕ) → p + (k + 1) ≡ suc (p + k)
-  next p = omega arith
+-- The first of n ports, or the last, and what is left; with no port left nothing changes.
+pub cut_range_first : (t : List ℕ) (p : ℕ) (n : ℕ) → 0 < n → cut_range t p n ≡ cut_range (cut t p) (p + 1) (n - 1)
+unfolding cut_range
+cut_range_first t p zero h = absurd (omega arith)
+cut_range_first t p (suc n) h = let e : suc n - 1 ≡ n = omega arith in rw (e, add-one p)
 
-  next_event : (e : ℕ) → 3 * (e + (k + 1)) ≡ suc (suc (suc (3 * (e + k))))
-  next_event e = omega arith
+pub cut_range_none : (t : List ℕ) (p : ℕ) (n : ℕ) → n ≤ 0 → cut_range t p n ≡ t
+unfolding cut_range
+cut_range_none t p zero h = refl
+cut_range_none t p (suc n) h = absurd (omega arith)
 
-  pub cut_range_turn : (t t' : List ℕ) (p : ℕ) → t' ≡ cut t (p + k) → cut_range t' (p + (k + 1)) (n - (k + 1)) ≡ cut_range t (p + k) (n - k)
-  unfolding cut_range
-  cut_range_turn t t' p e = rw (e, left_one k n h, next p)
+pub cut_count_first : (t : List ℕ) (p : ℕ) (n : ℕ) → 0 < n → cut_count t p n ≡ link_count (at t p) + cut_count (cut t p) (p + 1) (n - 1)
+unfolding cut_count
+cut_count_first t p zero h = absurd (omega arith)
+cut_count_first t p (suc n) h = let e : suc n - 1 ≡ n = omega arith in rw (e, add-one p)
 
-  pub cut_count_turn : (t t' : List ℕ) (p far m one : ℕ) → far ≡ at t (p + k) → t' ≡ cut t (p + k) → one ≡ link_count far
-      → (m + one) + cut_count t' (p + (k + 1)) (n - (k + 1)) ≡ m + cut_count t (p + k) (n - k)
-  unfolding cut_count
-  cut_count_turn t t' p far m one e f g = rw (g, e, f, left_one k n h, next p) (omega arith)
+pub cut_count_none : (t : List ℕ) (p : ℕ) (n : ℕ) → n ≤ 0 → cut_count t p n ≡ 0
+unfolding cut_count
+cut_count_none t p zero h = refl
+cut_count_none t p (suc n) h = absurd (omega arith)
 
-  pub move_up_turn : (t t' : List ℕ) (old new : ℕ) → t' ≡ move_port t (old + k) (new + k)
-      → move_up t' (old + (k + 1)) (new + (k + 1)) (n - (k + 1)) ≡ move_up t (old + k) (new + k) (n - k)
-  unfolding move_up
-  move_up_turn t t' old new e = rw (e, left_one k n h, next old, next new)
+pub move_up_first : (t : List ℕ) (old new : ℕ) (n : ℕ) → 0 < n → move_up t old new n ≡ move_up (move_port t old new) (old + 1) (new + 1) (n - 1)
+unfolding move_up
+move_up_first t old new zero h = absurd (omega arith)
+move_up_first t old new (suc n) h = let e : suc n - 1 ≡ n = omega arith in rw (e, add-one old, add-one new)
 
-  pub transfer_turn : (t t' t'' : List ℕ) (old new : ℕ) → t' ≡ move_port t (old + k) (new + k) → t'' ≡ put t' (old + k) 0
-      → transfer t'' (old + (k + 1)) (new + (k + 1)) (n - (k + 1)) ≡ transfer t (old + k) (new + k) (n - k)
-  unfolding transfer
-  transfer_turn t t' t'' old new e f = rw (f, e, left_one k n h, next old, next new)
+pub move_up_none : (t : List ℕ) (old new : ℕ) (n : ℕ) → n ≤ 0 → move_up t old new n ≡ t
+unfolding move_up
+move_up_none t old new zero h = refl
+move_up_none t old new (suc n) h = absurd (omega arith)
 
-  pub drop_events_turn : (m m' t t' : List ℕ) (i p far told : ℕ) → far ≡ at t (p + k) → t' ≡ cut t (p + k) → told ≡ told_link far
-      → m' ≡ sets m (3 * (i + k)) ((p + k) ∷ 1 ∷ told ∷ [])
-      → sets m' (3 * (i + (k + 1))) (drop_events t' (p + (k + 1)) (n - (k + 1))) ≡ sets m (3 * (i + k)) (drop_events t (p + k) (n - k))
-  unfolding drop_events
-  drop_events_turn m m' t t' i p far told e f g j = rw (j, g, e, f, left_one k n h, next p, next_event i)
-
-  pub move_up_events_turn : (m m' : List ℕ) (i old new : ℕ) → m' ≡ sets m (3 * (i + k)) ((old + k) ∷ 0 ∷ (new + k) ∷ [])
-      → sets m' (3 * (i + (k + 1))) (move_up_events (old + (k + 1)) (new + (k + 1)) (n - (k + 1))) ≡ sets m (3 * (i + k)) (move_up_events (old + k) (new + k) (n - k))
-  unfolding move_up_events
-  move_up_events_turn m m' i old new e = rw (e, left_one k n h, next old, next new, next_event i)
-
-  pub move_down_events_turn : (m m' : List ℕ) (i old new : ℕ) → m' ≡ sets m (3 * (i + k)) ((old + (n - (k + 1))) ∷ 0 ∷ (new + (n - (k + 1))) ∷ [])
-      → sets m' (3 * (i + (k + 1))) (move_down_events old new (n - (k + 1))) ≡ sets m (3 * (i + k)) (move_down_events old new (n - k))
-  unfolding move_down_events
-  move_down_events_turn m m' i old new e = rw (e, left_one k n h, next_event i)
-
--- the same for the loop that goes down, with k ports left
-pub move_down_turn : (k : ℕ) → 0 < k → (t t' : List ℕ) (old new : ℕ) → t' ≡ move_port t (old + (k - 1)) (new + (k - 1))
-    → move_down t' old new (k - 1) ≡ move_down t old new k
+pub move_down_first : (t : List ℕ) (old new : ℕ) (n : ℕ) → 0 < n → move_down t old new n ≡ move_down (move_port t (old + (n - 1)) (new + (n - 1))) old new (n - 1)
 unfolding move_down
-move_down_turn zero h t t' old new e = absurd (omega arith)
-move_down_turn (suc k) h t t' old new e = let f : suc k - 1 ≡ k = omega arith in rw (e, f)
+move_down_first t old new zero h = absurd (omega arith)
+move_down_first t old new (suc n) h = let e : suc n - 1 ≡ n = omega arith in rw (e)
 
--- With all n ports done nothing is left.
-module _ (k n : ℕ) (h : n ≤ k) where
-  none_left : n - k ≡ 0
-  none_left = omega arith
-
-  pub cut_range_done : (t : List ℕ) (p : ℕ) → t ≡ cut_range t p (n - k)
-  unfolding cut_range
-  cut_range_done t p = rw none_left
-
-  pub cut_count_done : (t : List ℕ) (p m : ℕ) → m ≡ m + cut_count t p (n - k)
-  unfolding cut_count
-  cut_count_done t p m = rw none_left (omega arith)
-
-  pub move_up_done : (t : List ℕ) (old new : ℕ) → t ≡ move_up t old new (n - k)
-  unfolding move_up
-  move_up_done t old new = rw none_left
-
-  pub transfer_done : (t : List ℕ) (old new : ℕ) → t ≡ transfer t old new (n - k)
-  unfolding transfer
-  transfer_done t old new = rw none_left
-
-  pub drop_events_done : (m t : List ℕ) (i p : ℕ) → m ≡ sets m i (drop_events t p (n - k))
-  unfolding drop_events
-  drop_events_done m t i p = rw none_left
-
-  pub move_up_events_done : (m : List ℕ) (i old new : ℕ) → m ≡ sets m i (move_up_events old new (n - k))
-  unfolding move_up_events
-  move_up_events_done m i old new = rw none_left
-
-  pub move_down_events_done : (m : List ℕ) (i old new : ℕ) → m ≡ sets m i (move_down_events old new (n - k))
-  unfolding move_down_events
-  move_down_events_done m i old new = rw none_left
-
-pub move_down_done : (k : ℕ) → k ≤ 0 → (t : List ℕ) (old new : ℕ) → t ≡ move_down t old new k
+pub move_down_none : (t : List ℕ) (old new : ℕ) (n : ℕ) → n ≤ 0 → move_down t old new n ≡ t
 unfolding move_down
-move_down_done zero h t old new = refl
-move_down_done (suc k) h t old new = absurd (omega arith)
+move_down_none t old new zero h = refl
+move_down_none t old new (suc n) h = absurd (omega arith)
+
+pub transfer_first : (t : List ℕ) (old new : ℕ) (n : ℕ) → 0 < n → transfer t old new n ≡ transfer (put (move_port t old new) old 0) (old + 1) (new + 1) (n - 1)
+unfolding transfer
+transfer_first t old new zero h = absurd (omega arith)
+transfer_first t old new (suc n) h = let e : suc n - 1 ≡ n = omega arith in rw (e, add-one old, add-one new)
+
+pub transfer_none : (t : List ℕ) (old new : ℕ) (n : ℕ) → n ≤ 0 → transfer t old new n ≡ t
+unfolding transfer
+transfer_none t old new zero h = refl
+transfer_none t old new (suc n) h = absurd (omega arith)
+
+pub drop_events_first : (t : List ℕ) (p : ℕ) (n : ℕ) → 0 < n → drop_events t p n ≡ p ∷ 1 ∷ told_link (at t p) ∷ drop_events (cut t p) (p + 1) (n - 1)
+unfolding drop_events
+drop_events_first t p zero h = absurd (omega arith)
+drop_events_first t p (suc n) h = let e : suc n - 1 ≡ n = omega arith in rw (e, add-one p)
+
+pub drop_events_none : (t : List ℕ) (p : ℕ) (n : ℕ) → n ≤ 0 → drop_events t p n ≡ []
+unfolding drop_events
+drop_events_none t p zero h = refl
+drop_events_none t p (suc n) h = absurd (omega arith)
+
+pub move_up_events_first : (old new : ℕ) (n : ℕ) → 0 < n → move_up_events old new n ≡ old ∷ 0 ∷ new ∷ move_up_events (old + 1) (new + 1) (n - 1)
+unfolding move_up_events
+move_up_events_first old new zero h = absurd (omega arith)
+move_up_events_first old new (suc n) h = let e : suc n - 1 ≡ n = omega arith in rw (e, add-one old, add-one new)
+
+pub move_up_events_none : (old new : ℕ) (n : ℕ) → n ≤ 0 → move_up_events old new n ≡ []
+unfolding move_up_events
+move_up_events_none old new zero h = refl
+move_up_events_none old new (suc n) h = absurd (omega arith)
+
+pub move_down_events_first : (old new : ℕ) (n : ℕ) → 0 < n → move_down_events old new n ≡ (old + (n - 1)) ∷ 0 ∷ (new + (n - 1)) ∷ move_down_events old new (n - 1)
+unfolding move_down_events
+move_down_events_first old new zero h = absurd (omega arith)
+move_down_events_first old new (suc n) h = let e : suc n - 1 ≡ n = omega arith in rw (e)
+
+pub move_down_events_none : (old new : ℕ) (n : ℕ) → n ≤ 0 → move_down_events old new n ≡ []
+unfolding move_down_events
+move_down_events_none old new zero h = refl
+move_down_events_none old new (suc n) h = absurd (omega arith)
+
+-- an event, and those after it
+pub told_first : (m : List ℕ) (e a b d : ℕ) (l : List ℕ) → sets m e (a ∷ b ∷ d ∷ l) ≡ sets (sets m e (a ∷ b ∷ d ∷ [])) (e + 3) l
+told_first m e a b d l = let f : e + 3 ≡ suc (suc (suc e)) = omega arith in rw f
 
 -- What is left of a shift of n ports, and of what is told of it, once k of them are done.
 abbrev pub shift_left : List ℕ → Bool → ℕ → ℕ → ℕ → ℕ → List ℕ
@@ -208,43 +194,9 @@ shift_left t ascending old new n k = cond ascending (move_up t (old + k) (new + 
 abbrev pub shift_events_left : Bool → ℕ → ℕ → ℕ → ℕ → List ℕ
 shift_events_left ascending old new n k = cond ascending (move_up_events (old + k) (new + k) (n - k)) (move_down_events old new (n - k))
 
-pub shift_starts : (t : List ℕ) (ascending : Bool) (old new n : ℕ) → shift_left t ascending old new n 0 ≡ shift t ascending old new n
-unfolding shift
-shift_starts t ascending old new n = simp (add-zero, sub-zero)
-
-pub shift_turn : (ascending : Bool) (k n : ℕ) → k < n → (t t' : List ℕ) (old new : ℕ) → t' ≡ move_port t (old + moved_at ascending n k) (new + moved_at ascending n k)
-    → shift_left t' ascending old new n (k + 1) ≡ shift_left t ascending old new n k
-shift_turn true k n h t t' old new e = move_up_turn k n h t t' old new e
-shift_turn false k n h t t' old new e =
-    let f : n - (k + 1) ≡ n - k - 1 = omega arith in
-    rw f (move_down_turn (n - k) (omega arith) t t' old new (rw f at e))
-
-pub shift_done : (k n : ℕ) → n ≤ k → (t : List ℕ) (ascending : Bool) (old new : ℕ) → t ≡ shift_left t ascending old new n k
-shift_done k n h t true old new = move_up_done k n h t (old + k) (new + k)
-shift_done k n h t false old new = move_down_done (n - k) (omega arith) t old new
-
-pub shift_events_start : (ascending : Bool) (old new n : ℕ) → shift_events_left ascending old new n 0 ≡ shift_events ascending old new n
-unfolding shift_events
-shift_events_start ascending old new n = simp (add-zero, sub-zero)
-
-pub shift_events_turn : (ascending : Bool) (k n : ℕ) → k < n → (m m' : List ℕ) (i old new : ℕ)
-    → m' ≡ sets m (3 * (i + k)) ((old + moved_at ascending n k) ∷ 0 ∷ (new + moved_at ascending n k) ∷ [])
-    → sets m' (3 * (i + (k + 1))) (shift_events_left ascending old new n (k + 1)) ≡ sets m (3 * (i + k)) (shift_events_left ascending old new n k)
-shift_events_turn true k n h m m' i old new e = move_up_events_turn k n h m m' i old new e
-shift_events_turn false k n h m m' i old new e = move_down_events_turn k n h m m' i old new e
-
-pub shift_events_done : (k n : ℕ) → n ≤ k → (m : List ℕ) (i : ℕ) (ascending : Bool) (old new : ℕ) → m ≡ sets m i (shift_events_left ascending old new n k)
-shift_events_done k n h m i true old new = move_up_events_done k n h m i (old + k) (new + k)
-shift_events_done k n h m i false old new = move_down_events_done k n h m i old new
-
 pub one_link_less : (n far r : ℕ) → (far ≡ 0 → ⊥) → r ≡ n - 1 → r ≡ n - link_count far
 unfolding link_count
 one_link_less n far r e f = rw (ne_eqb far 0 e) f
-
--- what `ok_or` gives, of the option
-pub or_told : {A E : Type 0} (o : Option A) (z : E) (x : A) {r : Result A E} → r ≡ ok_or o z → r ≡ Ok x → o ≡ Some x
-or_told (Some y) z x e f = let g : y ≡ x = cc in ap Some g
-or_told None z x e f = cc
 
 -- what `?` passes on
 pub passed_on : {A E : Type 0} {r : Result A E} {e : E} → IsErrAnd r (λ y. y ≡ e) → r ≡ Err e

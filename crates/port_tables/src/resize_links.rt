@@ -114,6 +114,7 @@ impl Resize {
 
     // Drops the highest positions of each side, incoming ones first, and answers how many links there were. Each side's are a first port and a number here and
     // where else they are dropped, not a range, which would be taken apart again.
+    #[tactic(auto, unfolding(crate::specs::ResizeLinks::drop_links, crate::specs::ResizeLinks::drop_count, crate::specs::ResizeLinks::drop_told, crate::specs::ResizeLinks::drop_incoming), using(crate::specs::ResizeLinkSteps::cut_count_small, crate::specs::ResizeLinkSteps::told_after))]
     pub fn drop_both(self, links: &mut [u32; PORT_SLOTS], moves: &mut [u32]) -> usize
         requires { BlockWithin self.meta }
         ensures { (result ≡ drop_count links.old self.meta self.incoming self.outgoing)

@@ -53,6 +53,7 @@ pub fn without_link(count: usize, far: u32) -> usize
 }
 
 // Sets `count` slots from `first` on; a range that runs past the table is left alone. Takes both as a block's meta data has them: half the callers hand these on.
+#[tactic(auto, unfolding(crate::specs::Tables::fill_range))]
 pub fn fill(table: &mut [u32; PORT_SLOTS], first: u32, count: u16, value: u32)
     ensures { table.new ≡ fill_range table.old first count value }
 {
@@ -136,6 +137,7 @@ pub fn link_count(far: u32) -> usize
 // Cuts the links of `count` ports from `first` on, one after the other, and answers how many there were.
 // Counts from 0, as the loops below: the definitions go by the number of ports; no plainer.
 // That the ports lie within the table stays a clause: the definitions take any first port and number, and a type that held it would be none of theirs.
+#[tactic(auto, using(crate::specs::TableSteps::cut_range_first, crate::specs::TableSteps::cut_range_none, crate::specs::TableSteps::cut_count_first, crate::specs::TableSteps::cut_count_none, crate::specs::TableSteps::link_count_at_most_one))]
 pub fn cut_range(links: &mut [u32; PORT_SLOTS], first: usize, count: usize) -> usize
     requires { first + count ≤ port_slots }
     ensures { (result ≡ cut_count links.old first count) × (links.new ≡ cut_range links.old first count) }
@@ -202,6 +204,7 @@ fn told_link(far: u32) -> u32
 
 // Cuts the links of `count` ports from `first` on as ports that are removed, tells each, and answers how many links there were.
 // The place of an event stays beside the list: a list lent from that place on would have to be long enough.
+#[tactic(auto, using(crate::specs::TableSteps::cut_range_first, crate::specs::TableSteps::cut_range_none, crate::specs::TableSteps::cut_count_first, crate::specs::TableSteps::cut_count_none, crate::specs::TableSteps::link_count_at_most_one, crate::specs::TableSteps::drop_events_first, crate::specs::TableSteps::drop_events_none, crate::specs::TableSteps::told_first))]
 pub fn drop_ports(
     links: &mut [u32; PORT_SLOTS],
     moves: &mut [u32],
@@ -249,6 +252,7 @@ impl Shift {
     }
 
     // Ports move within their block: from the first one where they go down, else from the last, so that none is overwritten.
+    #[tactic(auto, unfolding(crate::specs::Tables::shift), using(crate::specs::TableSteps::move_up_first, crate::specs::TableSteps::move_up_none, crate::specs::TableSteps::move_down_first, crate::specs::TableSteps::move_down_none))]
     pub fn move_ports(self, links: &mut [u32; PORT_SLOTS], ascending: bool)
         requires { ShiftFits self }
         ensures { links.new ≡ shift links.old ascending self.from self.to self.count }
@@ -260,6 +264,7 @@ impl Shift {
     }
 
     // Ports move to another block, the first one first; the old slots are left without a link.
+    #[tactic(auto, using(crate::specs::TableSteps::transfer_first, crate::specs::TableSteps::transfer_none))]
     pub fn transfer_ports(self, links: &mut [u32; PORT_SLOTS])
         requires { ShiftFits self }
         ensures { links.new ≡ transfer links.old self.from self.to self.count }
@@ -271,6 +276,7 @@ impl Shift {
     }
 
     // Tells the ports that move, in the order in which they do.
+    #[tactic(auto, unfolding(crate::specs::Tables::shift_events), using(crate::specs::TableSteps::move_up_events_first, crate::specs::TableSteps::move_up_events_none, crate::specs::TableSteps::move_down_events_first, crate::specs::TableSteps::move_down_events_none, crate::specs::TableSteps::told_first))]
     pub fn tell_moves(self, moves: &mut [u32], event: usize, ascending: bool)
         requires { (event + self.count ≤ port_slots) × ShiftFits self }
         ensures { moves.new ≡ sets moves.old (3 * event) (shift_events ascending self.from self.to self.count) }

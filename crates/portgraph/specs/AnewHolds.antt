@@ -10,14 +10,14 @@ use Rattle.port_tables.specs.Limits.{port_slots, node_ports}
 use Rattle.port_tables.specs.Lists.{Member}
 use Rattle.port_tables.specs.Tables.{at, head_at, put_head, fill_range, own_block, cut_range, cut_count, transfer, chain_block, Within}
 use Rattle.portgraph.specs.TableLaws.{length_fill_range, length_own_block, length_cut_range, length_chain_block, at_fill_in, at_fill_outside, at_block_in, at_chain_first, at_chain_other}
-use Rattle.portgraph.specs.Model.{Model, Far, Slots, live, held, idle, Valid, Good, Holds, Chain, count_of, slot_of, owner_of_who, InnerPlace}
+use Rattle.portgraph.specs.Model.{Model, Far, Slots, live, held, idle, Valid, Good, Holds, Chain, count_of, slot_of, owner_of_who, InnerPlace, Vacant}
 use Rattle.portgraph.specs.Meaning.{upd, drop_join, beyond, rest, growth, next_block, give_block, hand_over, move_model}
 use Rattle.port_tables.specs.Entries.{same_side, new_count, meta_of}
 use Rattle.portgraph.specs.Joins.{upd_elim, upd_same}
 use Rattle.portgraph.specs.Calls.{head_after}
 use Rattle.portgraph.specs.Resize.{resize_anew}
 use Rattle.port_tables.specs.ResizeLinks.{first_slot, kept_incoming, kept_outgoing, drop_links, drop_count, anew_links}
-use Rattle.portgraph.specs.LinkLaws.{Rep, Vacant, NoneOf, Moved, side_place, not_of_side, transfer_at, rep_fill_vacant, rep_extend, cut_range_none, dropped_holds_none, far_number_is_far_is}
+use Rattle.portgraph.specs.LinkLaws.{Rep, NoneOf, Moved, side_place, not_of_side, transfer_at, rep_fill_vacant, rep_extend, cut_range_none, dropped_holds_none, far_number_is_far_is}
 use Rattle.portgraph.specs.GoodSlots.{held_not_idle, block_within, block_of_one, free_block_apart, slot_in_range, slots_apart, hand_elim, handed_inside, give_elim, rest_in}
 use Rattle.portgraph.specs.GoodLaws.{good_move}
 use Rattle.portgraph.specs.Chains.{length_put_head}

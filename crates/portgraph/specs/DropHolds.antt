@@ -9,12 +9,12 @@ use Rattle.std.proofs.lemmas.Bool.{eqb-false}
 use Rattle.port_tables.specs.Limits.{node_slots}
 use Rattle.port_tables.specs.Entries.{ports_on, node_slot_of, same_side, new_count, meta_of}
 use Rattle.port_tables.specs.Tables.{at, cut_count}
-use Rattle.portgraph.specs.Model.{Model, Far, nowhere, to, Slots, live, Valid, Good, Holds, count_of, first_of, side_start, slot_of, slots_at, NodeChain, is_live, ports_of, out_place, total, InnerPlace}
+use Rattle.portgraph.specs.Model.{Model, Far, nowhere, to, Slots, live, Valid, Good, Holds, count_of, first_of, side_start, slot_of, slots_at, NodeChain, is_live, ports_of, out_place, total, InnerPlace, Vacant}
 use Rattle.portgraph.specs.Meaning.{upd, drop_join, beyond}
 use Rattle.portgraph.specs.Joins.{drop_joined, drop_twice, upd_same, upd_other}
 use Rattle.port_tables.specs.Listing.{zero_is_not_one}
 use Rattle.port_tables.specs.ResizeLinks.{first_slot, kept_incoming, kept_outgoing, drop_incoming, drop_links, drop_count}
-use Rattle.portgraph.specs.LinkLaws.{Rep, Vacant, NoneOf, Cleared, side_place, not_of_side, cut_range_at, rep_same, rep_weaken}
+use Rattle.portgraph.specs.LinkLaws.{Rep, NoneOf, Cleared, side_place, not_of_side, cut_range_at, rep_same, rep_weaken}
 use Rattle.portgraph.specs.GoodSlots.{gone_not_live, node_below}
 use Rattle.portgraph.specs.Sums.{all_links, one_link_less, total_has, links_after_recount}
 use Rattle.portgraph.specs.PlaceLaws.{rep_of}

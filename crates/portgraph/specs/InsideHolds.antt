@@ -7,13 +7,13 @@ use Rattle.std.proofs.Math.ListN.{length-set}
 use Rattle.port_tables.specs.Limits.{port_slots}
 use Rattle.port_tables.specs.Tables.{at, head_at, fill_range, own_block, shift, Within}
 use Rattle.portgraph.specs.TableLaws.{length_own_block, at_fill_in, at_fill_outside, at_block_in}
-use Rattle.portgraph.specs.Model.{Model, Far, Slots, live, Who, Valid, Good, Holds, Chain, slot_of, owner_of_slots, owner_of_who, InnerPlace}
+use Rattle.portgraph.specs.Model.{Model, Far, Slots, live, Who, Valid, Good, Holds, Chain, slot_of, owner_of_slots, owner_of_who, InnerPlace, Vacant}
 use Rattle.portgraph.specs.Meaning.{upd, drop_join, beyond, resize_model}
 use Rattle.port_tables.specs.Entries.{meta_of}
 use Rattle.portgraph.specs.Joins.{upd_elim, upd_same}
 use Rattle.portgraph.specs.Resize.{resize_inside}
 use Rattle.port_tables.specs.ResizeLinks.{first_slot, kept_outgoing, drop_links, inside_links}
-use Rattle.portgraph.specs.LinkLaws.{Rep, Vacant, NoneOf, Moved, side_place, not_of_side, shift_at, rep_fill_vacant, rep_extend, far_number_is_far_is}
+use Rattle.portgraph.specs.LinkLaws.{Rep, NoneOf, Moved, side_place, not_of_side, shift_at, rep_fill_vacant, rep_extend, far_number_is_far_is}
 use Rattle.portgraph.specs.GoodSlots.{block_within, block_of_one, free_block_apart, slot_in_range, slots_apart}
 use Rattle.portgraph.specs.GoodLaws.{good_resize}
 use Rattle.portgraph.specs.Chains.{chain_frame}

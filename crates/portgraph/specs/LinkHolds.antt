@@ -9,7 +9,7 @@ use Rattle.port_tables.specs.Limits.{node_slots, port_slots, node_ports, free_li
 use Rattle.port_tables.specs.Lists.{Member}
 use Rattle.port_tables.specs.Entries.{fresh_slot, same_side, port#}
 use Rattle.port_tables.specs.Tables.{at, head_at, link_both, cut, link_count, Within}
-use Rattle.portgraph.specs.Model.{Model, Far, nowhere, to, gone, Valid, Good, Holds, Wf, slot_of, slots_of_entry, total, links_out, InnerPlace}
+use Rattle.portgraph.specs.Model.{Model, Far, nowhere, to, gone, Valid, Good, Holds, Wf, slot_of, slots_of_entry, total, links_out, InnerPlace, Vacant, IsPort, Dead}
 use Rattle.portgraph.specs.Meaning.{same_place, drop_join, link_join, link_model, unlink_model}
 use Rattle.portgraph.specs.Joins.{same_side_true, same_side_false, same_side_distinct, same_side_refl}
 use Rattle.port_tables.specs.Listing.{zero_is_not_one}
@@ -18,7 +18,7 @@ use Rattle.portgraph.specs.Calls.{new_graph, with_links, link_refused, link_side
 use Rattle.port_tables.specs.TableSteps.{link_count_none}
 use Rattle.portgraph.specs.Chains.{chain_frame}
 use Rattle.portgraph.specs.Sums.{all_links, one_link_less, link_counts_one}
-use Rattle.portgraph.specs.LinkLaws.{Rep, Vacant, far_number_is_far_is, cut_at, cut_elsewhere, cut_counts, cut_none, link_at, link_elsewhere}
+use Rattle.portgraph.specs.LinkLaws.{Rep, far_number_is_far_is, cut_at, cut_elsewhere, cut_counts, cut_none, link_at, link_elsewhere}
 use Rattle.portgraph.specs.GoodSlots.{gone_not_live, node_below, slot_in_block, joined_is_valid}
 use Rattle.portgraph.specs.GoodLaws.{empty_model, good_empty, good_link, good_unlink}
 use Rattle.portgraph.specs.PlaceLaws.{meta_of_place, port_of_place, slot_cases, dead_port, vacant_is_dead, idle_vacant, spare_vacant, rep_of, link_none, none_linked, port_link_dead, port_link_none, port_link_to}
@@ -178,13 +178,6 @@ module _ {g : PortGraph} {M : Model} (good : Good M) (holds : Holds g M) where
       links_hold _ _ (drop_join (same_place x) M.join) (cut_at (rep_of good holds) x v) (cut_elsewhere (rep_of good holds) x v) (cut_count x v)
 
 -- The calls.
-
--- the port p is at the place x; no port has the number p
-abbrev pub IsPort : Model → ℕ → InnerPlace → Type 0
-IsPort M p x = Valid M.node x × (slot_of M.node x ≡ p)
-
-abbrev pub Dead : Model → ℕ → Type 0
-Dead M p = Vacant (Valid M.node) (slot_of M.node) p
 
 -- two live ports
 pub record Ends (M : Model) (a b : ℕ) : Type 0 where

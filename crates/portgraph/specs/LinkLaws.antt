@@ -12,7 +12,7 @@ use Rattle.port_tables.specs.Limits.{port_slots}
 use Rattle.port_tables.specs.Entries.{ports_on}
 use Rattle.port_tables.specs.Tables.{at, put, fill_range, chain_block, shift, link_both, cut_far, cut, cut_range, link_count, cut_count, relink, move_port, move_up, move_down, transfer}
 use Rattle.portgraph.specs.TableLaws.{length_put, length_fill_range, length_chain_block, length_link_both, length_cut, length_move_port, at_put_same, at_put_other, at_fill_outside, at_chain_other}
-use Rattle.portgraph.specs.Model.{Far, nowhere, to, Slots, live, Valid, side_start, slot_of, far_number, is_linked, InnerPlace}
+use Rattle.portgraph.specs.Model.{Far, nowhere, to, Slots, live, Valid, side_start, slot_of, far_number, is_linked, InnerPlace, Vacant}
 use Rattle.portgraph.specs.Meaning.{same_place, drop_join, link_join}
 use Rattle.port_tables.specs.TableSteps.{linked_both, cut_both}
 use Rattle.portgraph.specs.Joins.{same_place_refl, same_place_true, same_place_false, same_place_distinct, place_cases, nowhere_not_to, to_same, drop_here, drop_there, drop_joined, drop_leaves, drop_twice, drop_unlinked, drop_elsewhere, link_near, link_far, link_other, Joined, far_valid, joined_drop, joined_link}
@@ -36,10 +36,6 @@ pub record Rep (P : InnerPlace → Type 0) (ν : InnerPlace → ℕ) (J : InnerP
   pub apart : (x y : InnerPlace) → P x → P y → ν x ≡ ν y → x ≡ y
   pub joined : Joined P J
   pub links : (x : InnerPlace) → P x → at t (ν x) ≡ far_is ν (J x)
-
--- no place of P has this slot
-abbrev pub Vacant : (InnerPlace → Type 0) → (InnerPlace → ℕ) → ℕ → Type 0
-Vacant P ν s = (y : InnerPlace) → P y → ν y ≡ s → ⊥
 
 -- the far end's number depends on the numbering at the far end only
 far_is_agrees : {ν ν' : InnerPlace → ℕ} (f : Far) → ((y : InnerPlace) → f ≡ to y → ν y ≡ ν' y) → far_is ν f ≡ far_is ν' f

@@ -17,7 +17,7 @@ use Rattle.port_tables.specs.Tables.{at, far_in, owner_in}
 use Rattle.portgraph.specs.Model.{Model, Good, Holds, to, Slots, gone, live, Valid, slot_of, far_number, count_of, side_start, InnerPlace}
 use Rattle.portgraph.specs.Lookups.{meta_at, port_at, is_some, contains_node, is_port, contains_port}
 use Rattle.portgraph.specs.PlaceLaws.{meta_of_place, meta_of_node, port_of_place, slot_cases}
-use Rattle.portgraph.specs.WalkLaws.{ports_few, Walked, whole, unfinished, more, ports_of_node, ports_alive, Ascending, ascending_once}
+use Rattle.portgraph.specs.WalkLaws.{ports_few, ports_alive, Ascending, ascending_once}
 use Rattle.portgraph.specs.LinkWalks.{beyond, is_port_in, held_in, link_kept, is_node_of, is_of, link_to, ports_in, link_at, node_links, links_item, step_links, own_from, own_to, neighbour_at, neighbours, neighbours_item, step_neighbours, connections, connections_item, step_connections, all_ports, all_ports_item, step_all_ports}
 use Rattle.port_tables.specs.TableSteps.{at_outside}
 use Rattle.portgraph.specs.LinkWalkSteps.{filter_beyond, all_beyond, no_node_no_step}
@@ -36,6 +36,7 @@ use Rattle.portgraph.specs.declared.link_iter.Neighbours.{Neighbours}
 use Rattle.portgraph.specs.declared.link_iter.NodeConnections.{NodeConnections}
 use Rattle.portgraph.specs.declared.link_iter.Ports.{Ports}
 use Rattle.port_tables.specs.declared.index.PortIndex.{PortIndex}
+use Rattle.portgraph.specs.Walks.{Walked, whole, unfinished, more, ports_of_node}
 
 -- Any walk that stops at some of consecutive slots.
 

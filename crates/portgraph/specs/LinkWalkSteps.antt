@@ -14,8 +14,7 @@ use Rattle.port_tables.specs.ResizeLinks.{BlockFits}
 use Rattle.portgraph.specs.Model.{Wf}
 use Rattle.portgraph.specs.Lookups.{meta_at}
 use Rattle.portgraph.specs.LookupSteps.{found_block_fits}
-use Rattle.portgraph.specs.WalkLaws.{ports_of_node}
-use Rattle.portgraph.specs.Walks.{node_from, node_held, step_nodes, port_held, ports_item, ports_beyond, step_ports}
+use Rattle.portgraph.specs.Walks.{node_from, node_held, step_nodes, port_held, ports_item, ports_beyond, step_ports, ports_of_node}
 use Rattle.portgraph.specs.LinkWalks.{beyond, is_port_in, held_in, ports_in, own_from, own_to, own_ports, all_ports, all_ports_item, step_all_ports, first_where, before, node_left, ports_left}
 use Rattle.port_tables.specs.declared.direction.Direction.TheVariants.{Incoming, Outgoing}
 use Rattle.port_tables.specs.declared.node_entry.NodeMeta.{NodeMeta}

@@ -7,7 +7,6 @@ use Rattle.std.specs.List.{filter}
 use Rattle.port_tables.specs.Entries.{port_entry, node#, port#, node_of, meta_of_entry, fresh_slot, ports_from, ports_to}
 use Rattle.port_tables.specs.Tables.{at, far_in, owner_in}
 use Rattle.portgraph.specs.Lookups.{meta_at, contains_node, is_port}
-use Rattle.portgraph.specs.WalkLaws.{ports_of_node}
 use Rattle.port_tables.specs.declared.direction.Direction.TheVariants.{Outgoing}
 use Rattle.port_tables.specs.declared.index.NodeIndex.{NodeIndex}
 use Rattle.portgraph.specs.declared.portgraph.PortGraph.{PortGraph}
@@ -24,6 +23,7 @@ use Rattle.port_tables.specs.declared.index.PortIndex.{PortIndex}
 use Rattle.port_tables.specs.declared.index.PortRange.{PortRange}
 use Rattle.port_tables.specs.declared.node_entry.NodeMeta.{NodeMeta}
 use Rattle.portgraph.specs.declared.alloc.NoSuchNode.{NoSuchNode}
+use Rattle.portgraph.specs.Walks.{ports_of_node}
 
 -- A step: the first of the ports at which the walk stops, beyond the port held, if that one is still there.
 unfoldable pub beyond {ℓ} : {A : Type ℓ} → Bool → ℕ → A → (ℕ → A) → List ℕ → A

@@ -194,3 +194,14 @@ pub record Wf (g : PortGraph) : Type 0 where
   pub model : Model
   pub good : Good model
   pub holds : Holds g model
+
+-- no place of P has this slot
+abbrev pub Vacant : (InnerPlace → Type 0) → (InnerPlace → ℕ) → ℕ → Type 0
+Vacant P ν s = (y : InnerPlace) → P y → ν y ≡ s → ⊥
+
+-- the port p is at the place x; no port has the number p
+abbrev pub IsPort : Model → ℕ → InnerPlace → Type 0
+IsPort M p x = Valid M.node x × (slot_of M.node x ≡ p)
+
+abbrev pub Dead : Model → ℕ → Type 0
+Dead M p = Vacant (Valid M.node) (slot_of M.node) p

@@ -5,10 +5,10 @@ use Rattle.std.proofs.Common.{sym, ◌∙◌, ap, inl, inr, ⊎_elim, arith, ltb
 use Rattle.port_tables.specs.Lists.{Member}
 use Rattle.port_tables.specs.Entries.{owner_number, port_entry, ports_on, node#, port#, meta_of_entry}
 use Rattle.port_tables.specs.Tables.{at, Within}
-use Rattle.portgraph.specs.Model.{Model, Far, nowhere, to, Slots, gone, live, Who, held, idle, unused, Valid, Good, Holds, count_of, first_of, side_start, slot_of, far_number, slots_of_entry, owner_of_slots, owner_of_who, InnerPlace}
+use Rattle.portgraph.specs.Model.{Model, Far, nowhere, to, Slots, gone, live, Who, held, idle, unused, Valid, Good, Holds, count_of, first_of, side_start, slot_of, far_number, slots_of_entry, owner_of_slots, owner_of_who, InnerPlace, Vacant}
 use Rattle.portgraph.specs.Lookups.{entry_at, meta_at, port_at, port_in, port_index, offset_in, offset_of, port_offset, link_of, port_link}
 use Rattle.port_tables.specs.Listing.{zero_is_not_one}
-use Rattle.portgraph.specs.LinkLaws.{Rep, Vacant, far_number_is_far_is}
+use Rattle.portgraph.specs.LinkLaws.{Rep, far_number_is_far_is}
 use Rattle.portgraph.specs.GoodSlots.{gone_not_live, slot_in_block, slot_held, slot_in_range, slots_apart}
 use Rattle.port_tables.specs.declared.direction.Direction.{Direction}
 use Rattle.port_tables.specs.declared.direction.Direction.TheVariants.{Incoming, Outgoing}

@@ -12,7 +12,7 @@ use Rattle.port_tables.specs.ResizeLinks.{BlockFits}
 use Rattle.portgraph.specs.LookupSteps.{found_block_fits}
 use Rattle.portgraph.specs.Joins.{either_way}
 use Rattle.portgraph.specs.PlaceLaws.{entry_of_owner, meta_of_node}
-use Rattle.portgraph.specs.Walks.{node_from, node_held, step_nodes, port_held, ports_item, ports_beyond, step_ports, offset_found, offset_of_step, step_offsets}
+use Rattle.portgraph.specs.Walks.{node_from, node_held, step_nodes, port_held, ports_item, ports_beyond, step_ports, offset_found, offset_of_step, step_offsets, ports_of_node, Walked, whole, unfinished, more}
 use Rattle.port_tables.specs.declared.direction.Direction.{Direction}
 use Rattle.port_tables.specs.declared.direction.Direction.TheVariants.{Incoming, Outgoing}
 use Rattle.port_tables.specs.declared.index.PortOffset.{PortOffset}
@@ -30,22 +30,6 @@ use Rattle.port_tables.specs.declared.index.NodeIndex.{NodeIndex}
 use Rattle.port_tables.specs.declared.index.PortIndex.{PortIndex}
 use Rattle.portgraph.specs.declared.iter.Nodes.{Nodes}
 use Rattle.port_tables.specs.Listing.{range_none}
-
--- What a walk of several steps gives: its items, and whether it came to its end.
-pub record Walked (A : Type 0) : Type 0 where
-  pub items : List A
-  pub ended : Bool
-
--- all of these, and then the end
-abbrev pub whole : {A : Type 0} → List A → Walked A
-whole l = record { items = l; ended = true }
-
--- a walk that is out of fuel has not ended
-abbrev pub unfinished : {A : Type 0} → Walked A
-unfinished = record { items = []; ended = false }
-
-abbrev pub more : {A : Type 0} → A → Walked A → Walked A
-more n w = record { items = n ∷ w.items; ended = w.ended }
 
 -- Nodes.
 
@@ -260,10 +244,6 @@ pub live_is_listed : (g : PortGraph) (n : ℕ) → n < node_slots → contains_n
 live_is_listed g n l h = live_listed g.node_meta 0 node_slots n (omega arith) (omega arith) (sym (some_is_node (entry_at g n)) ∙ h)
 
 -- Ports of a node.
-
--- the ports of a node on these sides
-abbrev pub ports_of_node : NodeMeta → Sides → List ℕ
-ports_of_node m sides = range (ports_from m sides) (ports_to m sides - ports_from m sides)
 
 abbrev pub ports_cursor : ℕ → Sides → ℕ → NodePorts
 ports_cursor n sides held = record { node = node# n; sides = sides; held = held }

@@ -1,6 +1,6 @@
 -- Walks: for any cursor a step gives the next item of the present listing beyond what the cursor holds.
 -- A cursor holds the number given last, one higher than it; 0 at the start. It ends where what it holds is gone.
-use Rattle.std.specs.Prelude.{Bool, true, cond, List, [], ◌∷◌, ℕ, zero, suc, ◌-◌, max, eqb, ltb, get_or, Option, Some, None, Result, Ok, Err}
+use Rattle.std.specs.Prelude.{Bool, true, cond, List, [], ◌∷◌, ℕ, zero, suc, ◌-◌, max, eqb, ltb, get_or, Option, Some, None, Result, Ok, Err, false}
 use Rattle.port_tables.specs.Limits.{node_slots}
 use Rattle.port_tables.specs.Entries.{fresh_slot, is_node, node#, port#, ports_from, ports_to}
 use Rattle.portgraph.specs.Lookups.{meta_at, contains_node, contains_port, port_offset, offset_numbers}
@@ -15,6 +15,7 @@ use Rattle.port_tables.specs.declared.index.PortOffset.{PortOffset}
 use Rattle.port_tables.specs.declared.node_entry.NodeMeta.{NodeMeta}
 use Rattle.portgraph.specs.declared.alloc.NoSuchNode.{NoSuchNode}
 use Rattle.portgraph.specs.declared.iter.Nodes.{Nodes}
+use Rattle.port_tables.specs.Lists.{range}
 
 -- Nodes, by ascending number.
 
@@ -95,3 +96,23 @@ start_offsets g n sides = started_offsets (start_ports g n sides)
 abbrev pub offsets_start_numbers : Result NodePortOffsets NoSuchNode → List ℕ
 offsets_start_numbers (Ok c) = 0 ∷ []
 offsets_start_numbers (Err _) = 4 ∷ []
+
+-- the ports of a node on these sides
+abbrev pub ports_of_node : NodeMeta → Sides → List ℕ
+ports_of_node m sides = range (ports_from m sides) (ports_to m sides - ports_from m sides)
+
+-- What a walk of several steps gives: its items, and whether it came to its end.
+pub record Walked (A : Type 0) : Type 0 where
+  pub items : List A
+  pub ended : Bool
+
+-- all of these, and then the end
+abbrev pub whole : {A : Type 0} → List A → Walked A
+whole l = record { items = l; ended = true }
+
+-- a walk that is out of fuel has not ended
+abbrev pub unfinished : {A : Type 0} → Walked A
+unfinished = record { items = []; ended = false }
+
+abbrev pub more : {A : Type 0} → A → Walked A → Walked A
+more n w = record { items = n ∷ w.items; ended = w.ended }

@@ -1,7 +1,7 @@
 -- One request on a graph: what is asked is answered, and what it leaves is again a graph of the calls.
 use Rattle.std.specs.Prelude.{◌≡◌, refl, List, [], ◌∷◌, ℕ, ◌<◌, Option, Result}
 use Rattle.std.proofs.Common.{sym, ap, subst, ◌∙◌}
-use Rattle.multiportgraph.specs.Calls.{set_counts, subport_link, cut_port, cut_sub, visible_nodes, visible_ports, visible_links, tidy_port}
+use Rattle.multiportgraph.specs.Calls.{set_counts, cut_port, cut_sub, visible_nodes, visible_ports, visible_links, tidy_port}
 use Rattle.theorems.specs.Book.{set_call, cut_call, cut_sub_call, tidy_call}
 use Rattle.multiportgraph.specs.WellFormed.{MultiWf}
 use Rattle.theorems.proofs.CallLaws.{empty_kept, step_kept}
@@ -67,7 +67,3 @@ module _ {m m' : MultiPortGraph} {ws : List ℕ} {x : Asked} {v : Result (Option
 
   pub cut_sub_answered : {p o : ℕ} → x ≡ call (cut_sub_call p o) → ws ≡ five (unplaced_numbers v) → v ≡ unplaced (cut_sub m p o).answer → m' ≡ (cut_sub m p o).graph → Answered m x ws m'
   cut_sub_answered {p} {o} e t u g = answered w e (cut_told (cut_sub m p o).answer t u) g
-
-module _ {m : MultiPortGraph} {ws : List ℕ} {x : Asked} {v : Result (Option SubportIndex) Refusal} (w : MultiWf m) where
-  pub link_of_answered : {p o : ℕ} → x ≡ link_of p o → ws ≡ five (unplaced_numbers v) → v ≡ unplaced (subport_link m p o) → Answered m x ws m
-  link_of_answered {p} {o} e t u = answered w e (cut_told (subport_link m p o) t u) refl

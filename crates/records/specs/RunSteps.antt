@@ -1,16 +1,15 @@
 -- What the run's functions cite: the turn of a loop over the requests, and refusal 1.
-use Rattle.std.specs.Prelude.{◌≡◌, refl, Bool, true, false, cond, eqb, List, [], ◌∷◌, ◌++◌, ℕ, zero, suc, ◌+◌, ◌*◌, ◌/◌, ◌%◌, ◌≤◌, ◌<◌, length}
+use Rattle.std.specs.Prelude.{◌≡◌, refl, List, [], ◌∷◌, ◌++◌, ℕ, zero, suc, ◌+◌, ◌*◌, ◌/◌, ◌%◌, ◌≤◌, ◌<◌, length}
 use Rattle.std.proofs.Common.{sym, ap, ◌∙◌, append-nil, length-append, arith}
 use Rattle.std.proofs.Math.ListN.{get_or-append}
 use Rattle.std.proofs.lemmas.List.{get_or-append-add}
-use borrow.Author.Tests.{eqb-true}
 use Rattle.std.proofs.lemmas.List.Edits.{sets, sets-eq}
 use Rattle.std.proofs.Math.Seq.{length-sets, drop-length}
 use Rattle.multiportgraph.specs.WellFormed.{MultiWf}
 use Rattle.theorems.proofs.CallLaws.{empty_kept}
 use Rattle.multiportgraph.specs.declared.multiportgraph.MultiPortGraph.{MultiPortGraph}
 use Rattle.records.specs.Words.{word_at, bytes_of, Request, request_at, requests_from, requests_of}
-use Rattle.records.specs.Run.{Asked, asked, after, numbers, five, Answered, answers_from, graph_from, answer_bytes, returned, written, list_taken, first_graph}
+use Rattle.records.specs.Run.{Asked, asked, after, numbers, five, Answered, answers_from, graph_from, answer_bytes, first_graph}
 use Rattle.records.specs.WordLaws.{bytes_append, bytes_long, requests_many}
 use Rattle.port_tables.specs.ResizeLinkSteps.{sets_append}
 use Rattle.port_tables.specs.declared.release.Release.TheVariants.{One}
@@ -140,9 +139,6 @@ pub record Going (requests rest : List ℕ) (start graph : MultiPortGraph) : Typ
   pub same : graph_from graph (requests_of rest) ≡ graph_from start (requests_of requests)
   pub kept : MultiWf graph
 
-pub going_starts : {requests : List ℕ} {m : MultiPortGraph} → MultiWf m → Going requests requests m m
-going_starts w = record { same = refl; kept = w }
-
 module _ {requests rest : List ℕ} {start m : MultiPortGraph} (r : Going requests rest start m) where
   pub going_turns : (request next : List ℕ) → rest ≡ request ++ next → length request ≡ 20 → {m' : MultiPortGraph} {x : Asked} {words : List ℕ} → x ≡ asked (request_at request 0)
       → Answered m x words m' → Going requests next start m'
@@ -156,22 +152,3 @@ module _ {requests rest : List ℕ} {start m : MultiPortGraph} (r : Going reques
   pub going_ends : length rest < 20 → m ≡ graph_from start (requests_of requests)
   unfolding graph_from
   going_ends h = ap (graph_from m) (sym (requests_none rest h)) ∙ r.same
-
--- Refusal 1.
-module _ (requests answers : List ℕ) where
-  -- a list that is taken has the answers' length, and is one of whole requests
-  pub taken_whole : list_taken requests answers ≡ true → (length answers ≡ length requests) × (length requests % 20 ≡ 0)
-  unfolding list_taken
-  taken_whole h = go (eqb (length requests) (length answers)) refl h
-    where
-      go : (b : Bool) → eqb (length requests) (length answers) ≡ b → cond b (eqb (length requests % 20) 0) false ≡ true → (length answers ≡ length requests) × (length requests % 20 ≡ 0)
-      go true e h = (sym (eqb-true (length requests) (length answers) e), eqb-true (length requests % 20) 0 h)
-      go false e h = absurd (cc)
-
-  pub run_refused : list_taken requests answers ≡ false → (1 ≡ returned requests answers) × (answers ≡ written requests answers)
-  unfolding returned written
-  run_refused e = rw e (refl, refl)
-
-  pub run_taken : (answers' : List ℕ) → list_taken requests answers ≡ true → answers' ≡ answer_bytes requests → (0 ≡ returned requests answers) × (answers' ≡ written requests answers)
-  unfolding returned written
-  run_taken answers' e h = rw e (refl, h)

@@ -1,5 +1,5 @@
 -- What the leaves over bytes compute.
-use Rattle.std.specs.Prelude.{◌≡◌, refl, List, [], ◌∷◌, ◌++◌, ℕ, suc, ◌+◌, ◌*◌, ◌/◌, ◌%◌, ◌≤◌, ◌<◌, get_or, length, take, drop}
+use Rattle.std.specs.Prelude.{◌≡◌, refl, List, [], ◌∷◌, ◌++◌, ℕ, suc, ◌+◌, ◌/◌, ◌%◌, ◌≤◌, ◌<◌, get_or, length, take, drop}
 use Rattle.std.proofs.Common.{sym, ap, ◌∙◌, drop-cons, length-drop, length-append, arith}
 use Rattle.std.proofs.Math.Seq.{length-sets}
 use Rattle.std.proofs.lemmas.List.Edits.{sets}
@@ -18,9 +18,6 @@ word_laid l part i k w h b e n =
     laid l part (bytes_of (w ∷ [])) i k (omega arith) (rw q at e) n
 
 -- Words laid one after the other.
-
-pub words_begin : (l : List ℕ) (at : ℕ) (words : List ℕ) → Writing l at (bytes_of words) l (at + 4 * 0) (bytes_of (drop 0 words))
-words_begin l at words = let e : at + 4 * 0 ≡ at = omega arith in record { counted = omega arith; same = ap (λ (p : ℕ). sets l p (bytes_of words)) e; long = refl }
 
 module _ (words : List ℕ) (i : ℕ) {l₀ l : List ℕ} {at p : ℕ} (w : Writing l₀ at (bytes_of words) l p (bytes_of (drop i words))) where
   none_left : length words ≤ i → bytes_of (drop i words) ≡ []

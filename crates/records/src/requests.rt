@@ -56,6 +56,7 @@ pub struct Request {
 }
 
 // What a request asks, if it is one.
+#[tactic(auto, unfolding(crate::specs::Run::asked_by))]
 pub(crate) fn ask_of(request: Request) -> Option<Ask>
     ensures { meant_by result ≡ asked_by request.code request.a request.b request.c request.d }
 {
@@ -75,6 +76,7 @@ pub(crate) fn ask_of(request: Request) -> Option<Ask>
 }
 
 // The request that stands in twenty bytes.
+#[tactic(auto, unfolding(crate::specs::Words::request_at))]
 pub(crate) fn request_in(bytes: &[u8]) -> Request
     requires { 20 ≤ length bytes.now }
     ensures { asked_by result.code result.a result.b result.c result.d ≡ asked (request_at bytes.now 0) }

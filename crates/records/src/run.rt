@@ -11,6 +11,7 @@ use multiportgraph::multiportgraph::MultiPortGraph;
 use port_tables::release::Release;
 
 // Runs a list from an empty graph of release 1, past refused calls, and lays every answer.
+#[tactic(auto, using(crate::specs::RunSteps::run_ends))]
 pub(crate) fn run_list(requests: &[u8], answers: &mut [u8])
     requires { (length answers.old ≡ length requests.now) × (length requests.now % 20 ≡ 0) }
     ensures { answers.new ≡ answer_bytes requests.now }
@@ -31,6 +32,7 @@ fn list_taken<'a>(requests: &'a [u8], answers: &'a [u8]) -> bool
 }
 
 // Runs a list of requests of five little-endian words. 1 for refusal 1, which leaves the answers as they are; else 0. Stays a number: the C entry gives it on.
+#[tactic(auto, unfolding(crate::specs::Run::list_taken, crate::specs::Run::returned, crate::specs::Run::written))]
 pub fn run_records(requests: &[u8], answers: &mut [u8]) -> u32
     ensures { (result ≡ returned requests.now answers.old)
         × (answers.new ≡ written requests.now answers.old) }
@@ -43,6 +45,7 @@ pub fn run_records(requests: &[u8], answers: &mut [u8]) -> u32
 }
 
 // Runs a list of requests on a graph, past refused calls. What stands after the last whole request is not read.
+#[tactic(auto, using(crate::specs::RunSteps::going_ends))]
 pub fn run_on(graph: &mut MultiPortGraph, requests: &[u8])
     requires { MultiWf graph.old }
     ensures { (graph.new ≡ graph_from graph.old (requests_of requests.now))

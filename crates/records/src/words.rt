@@ -23,6 +23,7 @@ pub fn put_word(bytes: &mut [u8], i: usize, word: u32)
 
 // Lays words one after the other, from a byte position on.
 // Laid by place: of chunks that are lent to be written, a proof keeps the length alone.
+#[tactic(auto, using(crate::specs::WordSteps::words_end))]
 pub fn put_words(bytes: &mut [u8], at: usize, words: &[u32])
     requires { at + 4 * length words.now ≤ length bytes.old }
     ensures { bytes.new ≡ sets bytes.old at (bytes_of words.now) }

@@ -11,7 +11,6 @@ use Rattle.multiportgraph.specs.Reading.{is_split, seen}
 use Rattle.multi_tables.specs.Forms.{visible}
 use Rattle.multiportgraph.specs.Wires.{wires_walked}
 use Rattle.multiportgraph.specs.WellFormed.{Fine, MultiWf}
-use Rattle.multiportgraph.specs.SpaceLaws.{Spaced}
 use Rattle.multiportgraph.specs.declared.multiportgraph.MultiPortGraph.{MultiPortGraph}
 use Rattle.port_tables.specs.declared.release.Release.{Release}
 use Rattle.port_tables.specs.declared.release.Release.TheVariants.{Two}
@@ -32,6 +31,7 @@ use Rattle.sheets.specs.Sheets.{ports_of, entry_at, sheet_entries, sheet_numbers
 use Rattle.sheets.specs.Held.{link_held}
 use Rattle.sheets.specs.SheetHistory.{Item, whole_sheet, next_item, run_items, links_of, calls_of}
 use Rattle.sheets.specs.SheetLaws as proofs
+use Rattle.multiportgraph.specs.Space.{Spaced}
 
 -- A sheet and its links.
 

@@ -1,12 +1,11 @@
 -- Adding, removing and resizing over the tables.
-use Rattle.std.specs.Prelude.{◌≡◌, refl, Bool, true, false, cond, ◌||◌, List, ◌∷◌, map, ℕ, suc, ◌+◌, ◌≤◌, ◌<◌, leb, ltb, length, Result, Ok, Err}
-use Rattle.std.proofs.Common.{sym, ap, ◌∙◌, subst, add-one, arith, le-leb, lt-ltb, le-ltb, leb-false}
-use Rattle.std.proofs.lemmas.Bool.{or_parts, lt-leb}
+use Rattle.std.specs.Prelude.{◌≡◌, refl, Bool, true, false, cond, List, ◌∷◌, map, ℕ, suc, ◌+◌, ◌≤◌, ◌<◌, length, Result, Ok, Err}
+use Rattle.std.proofs.Common.{sym, ap, ◌∙◌, subst, add-one, arith, le-leb, lt-ltb, le-ltb}
 use Rattle.std.specs.List.{filter}
-use Rattle.port_tables.specs.Limits.{node_slots, port_slots, node_ports}
+use Rattle.port_tables.specs.Limits.{port_slots, node_ports}
 use Rattle.port_tables.specs.Listing.{length_map}
 use Rattle.sketches.specs.Plan.{PlanBlock, Plan, has_block, is_there, ports_in_all}
-use Rattle.sketches.specs.PlanCalls.{most_adds, Sketched, leaves, add_block, remove_block, recount, set_counts}
+use Rattle.sketches.specs.PlanCalls.{Sketched, leaves, add_block, remove_block, recount, set_counts}
 use Rattle.sketches.specs.PlanNumbers.{add_numbers, done_numbers}
 use Rattle.sketches.specs.PlanWf.{PlanWf}
 use Rattle.sketches.specs.CallsWf.{add_wf, block_gone, remove_wf, block_resized, resize_wf}
@@ -17,7 +16,7 @@ use Rattle.sketches.specs.SketchTables.{Totals, plan_in, totals_counts, SketchWf
 use Rattle.sketches.specs.declared.rows.Row.{Row}
 use Rattle.sketches.specs.declared.tests.EndTest.TheVariants as ask
 use Rattle.sketches.specs.declared.tests.Test.TheVariants as test
-use Rattle.sketches.specs.declared.sketch.Reason.TheVariants.{TooManyPorts, UnknownBlock, UnknownPort, NoRoom}
+use Rattle.sketches.specs.declared.sketch.Reason.TheVariants.{UnknownBlock, UnknownPort, NoRoom}
 use Rattle.sketches.specs.declared.sketch.Reason.{Reason}
 use Rattle.sketches.specs.declared.sketch.SketchPort.{SketchPort}
 use Rattle.sketches.specs.CallParts.{no_room, judge_port}
@@ -69,14 +68,6 @@ new_block K i o =
       wires = K.wires;
     }
 
-add_too_many : (K : Plan) (i o : ℕ) → node_ports < i + o → add_block K i o ≡ leaves K (Err TooManyPorts)
-unfolding add_block
-add_too_many K i o h = rw (lt-leb (i + o) node_ports h)
-
-add_no_room : (K : Plan) (i o : ℕ) → i + o ≤ node_ports → no_room K.adds (length K.blocks) K.blocks (i + o) ≡ true → add_block K i o ≡ leaves K (Err NoRoom)
-unfolding add_block
-add_no_room K i o h k = rw (le-leb (i + o) node_ports h, k)
-
 add_accepted : (K : Plan) (i o : ℕ) → i + o ≤ node_ports → no_room K.adds (length K.blocks) K.blocks (i + o) ≡ false → add_block K i o ≡ leaves (new_block K i o) (Ok K.adds)
 unfolding add_block
 add_accepted K i o h k = rw (le-leb (i + o) node_ports h, k)
@@ -84,9 +75,6 @@ add_accepted K i o h k = rw (le-leb (i + o) node_ports h, k)
 module _ (b s w : List Row) (h : Totals) (wf : SketchWf b s w h) (i o : ℕ) where
   room_is : {n : ℕ} → n ≡ i + o → no_room h.adds (length (blocks_in b h.blocks)) (blocks_in b h.blocks) (i + o) ≡ no_room h.adds h.blocks (blocks_in b h.blocks) n
   room_is e = rw (length_blocks b h.blocks, ← e)
-
-  pub added_no_room : {n : ℕ} → n ≡ i + o → n ≤ node_ports → no_room h.adds h.blocks (blocks_in b h.blocks) n ≡ true → Leaves add_numbers (add_block (plan_in b s w h) i o) b s w h (Err NoRoom)
-  added_no_room e k r = leaves_as (plan_in b s w h) (Err NoRoom) (add_no_room (plan_in b s w h) i o (omega arith) (room_is e ∙ r)) refl refl wf
 
   pub added : {n m : ℕ} {b' : List Row} → n ≡ i + o → n ≤ node_ports → no_room h.adds h.blocks (blocks_in b h.blocks) n ≡ false →
       (rows_in b' m ≡ record { 0 = h.adds; 1 = i; 2 = o; 3 = 0; 4 = 0; 5 = 0 } ∷ rows_in b h.blocks) × Table b' →
@@ -115,10 +103,6 @@ unfolding remove_block
 remove_accepted K n h = rw h
 
 -- Resizing.
-
-resize_too_many : (K : Plan) (n i o : ℕ) → node_ports < i + o → set_counts K n i o ≡ leaves K (Err TooManyPorts)
-unfolding set_counts
-resize_too_many K n i o h = rw (lt-leb (i + o) node_ports h)
 
 resize_unknown : (K : Plan) (n i o : ℕ) → i + o ≤ node_ports → has_block K.blocks n ≡ false → set_counts K n i o ≡ leaves K (Err UnknownBlock)
 unfolding set_counts
@@ -180,9 +164,3 @@ module _ (b s w : List Row) (h : Totals) (wf : SketchWf b s w h) (n : ℕ) where
             let y : splits_in s' ns ≡ (block_resized (plan_in b s w h) n i o).splits = ap (map split_of) q.0 ∙ splits_left (ask.OfDropped n i o) (rows_in s h.splits) in
             let z : wires_in w' nw ≡ (block_resized (plan_in b s w h) n i o).wires = ap (map wire_of) r.0 ∙ wires_left (ask.OfDropped n i o) (rows_in w h.wires) in
             ap (plan_in b' s' w') c ∙ (λ k. record { release = h.release; adds = h.adds; blocks = p.0 k; splits = y k; wires = z k })
-
-pub room_means : (adds count : ℕ) (l : List PlanBlock) (n : ℕ) → no_room adds count l n ≡ false → (adds < most_adds) × (count < node_slots)
-room_means adds count l n e =
-    let p = or_parts (leb most_adds adds) (leb node_slots count || ltb port_slots (ports_in_all l + n)) e in
-    let q = or_parts (leb node_slots count) (ltb port_slots (ports_in_all l + n)) p.1 in
-    (leb-false most_adds adds p.0, leb-false node_slots count q.0)

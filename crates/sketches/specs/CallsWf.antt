@@ -216,7 +216,7 @@ lowest_within l s o (suc n) = go (any_touches (at_end s o) l) (lowest_within l s
 pub offset_within : (K : Plan) (x : SketchPort) → offset_ready K x ≤ length K.wires
 offset_within K x = let h = lowest_within K.wires (spot_named x) 0 (length K.wires) in omega arith
 
-subports_among_lem : (l : List Place) (s : Spot) → ((x : Place) → Member x l → x.offset ≤ most_subports) → subports_among l s ≤ most_subports
+pub subports_among_lem : (l : List Place) (s : Spot) → ((x : Place) → Member x l → x.offset ≤ most_subports) → subports_among l s ≤ most_subports
 unfolding subports_among
 subports_among_lem [] s h = omega arith
 subports_among_lem (x ∷ l) s h = go (at_spot s x) (subports_among_lem l s (λ y i. h y (inr i)))

@@ -65,33 +65,17 @@ module _ (f : EndTest) where
           rw (p, q) (ap (λ (b : Bool). cond b (far (wire_of r).into) (far (wire_of r).out)) (sym p) ∙ ap (λ (y : Row). cond (end_hits f (wire_of y).out) (far (wire_of y).into) (far (wire_of y).out)) e)
       go false p false q h rest = let m : filter (hits (test.Wire f)) l ≡ x ∷ k = rw (p, q) at h in rw (p, q) (rest m)
 
-  module _ (t : List Row) (n : ℕ) {k : Option Row} (e : k ≡ first (filter (hits (test.Wire f)) (rows_in t n))) where
-    pub far_nothing : k ≡ None → nothing ≡ far_from (end_hits f) (wires_in t n)
-    far_nothing z = go (filter (hits (test.Wire f)) (rows_in t n)) refl (sym z ∙ e)
-      where
-        go : (l : List Row) → filter (hits (test.Wire f)) (rows_in t n) ≡ l → None ≡ first l → nothing ≡ far_from (end_hits f) (wires_in t n)
-        go [] p q = sym (far_none (rows_in t n) p)
-        go (r ∷ l) p q = absurd (let z : ◌≡◌ {A = ℕ} 0 1 = cc in omega arith)
+-- the far end of a row, if there is one
+abbrev pub far_of_row : EndTest → Option Row → Far
+far_of_row f None = nothing
+far_of_row f (Some r) = cond (end_hits f (wire_of r).out) (far (wire_of r).into) (far (wire_of r).out)
 
-    module _ {r : Row} (z : k ≡ Some r) where
-      far_given : cond (end_hits f (wire_of r).out) (far (wire_of r).into) (far (wire_of r).out) ≡ far_from (end_hits f) (wires_in t n)
-      far_given = go (filter (hits (test.Wire f)) (rows_in t n)) refl (sym z ∙ e)
-        where
-          go : (l : List Row) → filter (hits (test.Wire f)) (rows_in t n) ≡ l → Some r ≡ first l → cond (end_hits f (wire_of r).out) (far (wire_of r).into) (far (wire_of r).out) ≡ far_from (end_hits f) (wires_in t n)
-          go [] p q = absurd (let z : ◌≡◌ {A = ℕ} 0 1 = cc in omega arith)
-          go (x ∷ l) p q =
-              let s : r ≡ x = cc in
-              ap (λ (u : Row). cond (end_hits f (wire_of u).out) (far (wire_of u).into) (far (wire_of u).out)) s ∙ sym (far_some (rows_in t n) x l p)
-
-      pub far_in_lem : {x y : Place} → x ≡ (wire_of r).out → end_hits f x ≡ true → y ≡ (wire_of r).into → far y ≡ far_from (end_hits f) (wires_in t n)
-      far_in_lem {x} {y} q c d =
-          let h : end_hits f (wire_of r).out ≡ true = sym (ap (end_hits f) q) ∙ c in
-          ap far d ∙ ap (λ (b : Bool). cond b (far (wire_of r).into) (far (wire_of r).out)) (sym h) ∙ far_given
-
-      pub far_out : {x y : Place} → x ≡ (wire_of r).out → end_hits f x ≡ false → y ≡ (wire_of r).out → far y ≡ far_from (end_hits f) (wires_in t n)
-      far_out {x} {y} q c d =
-          let h : end_hits f (wire_of r).out ≡ false = sym (ap (end_hits f) q) ∙ c in
-          ap far d ∙ ap (λ (b : Bool). cond b (far (wire_of r).into) (far (wire_of r).out)) (sym h) ∙ far_given
+pub far_read : (f : EndTest) (t : List Row) (n : ℕ) → far_from (end_hits f) (wires_in t n) ≡ far_of_row f (first (filter (hits (test.Wire f)) (rows_in t n)))
+far_read f t n = go (filter (hits (test.Wire f)) (rows_in t n)) refl
+  where
+    go : (l : List Row) → filter (hits (test.Wire f)) (rows_in t n) ≡ l → far_from (end_hits f) (wires_in t n) ≡ far_of_row f (first l)
+    go [] p = far_none f (rows_in t n) p
+    go (r ∷ l) p = far_some f (rows_in t n) r l p
 
 -- a far end is an end of a wire
 far_fits_in : (g : Place → Bool) (l : List Wire) → ((w : Wire) → Member w l → (w.out.offset < most_subports) × (w.into.offset < most_subports)) → (x : Place) → far x ≡ far_from g l → x.offset < most_subports
@@ -119,11 +103,11 @@ end_answered (Some x) e = ap Ok e
 
 -- What an end is linked with.
 
-abbrev found_as : Far → Result (Unit {0}) Reason → Result (Option SketchEnd) Reason
+abbrev pub found_as : Far → Result (Unit {0}) Reason → Result (Option SketchEnd) Reason
 found_as x (Err q) = Err q
 found_as x (Ok u) = end_found x
 
-found_as_judged : (K : Plan) (x : SketchPort) (o : ℕ) → subport_link K x o ≡ found_as (far_from (at_end (spot_named x) (offset_read K x o)) K.wires) (judge_end K x o)
+pub found_as_judged : (K : Plan) (x : SketchPort) (o : ℕ) → subport_link K x o ≡ found_as (far_from (at_end (spot_named x) (offset_read K x o)) K.wires) (judge_end K x o)
 unfolding subport_link judge_end
 found_as_judged K x o = go (bad_offset o) (is_there K x) (lacks_offset K x o)
   where
@@ -136,9 +120,6 @@ found_as_judged K x o = go (bad_offset o) (is_there K x) (lacks_offset K x o)
     go false true false = refl
 
 module _ (K : Plan) (x : SketchPort) (o : ℕ) {j : Result (Unit {0}) Reason} (e : j ≡ judge_end K x o) where
-  pub end_refused : {q : Reason} → j ≡ Err q → Err q ≡ subport_link K x o
-  end_refused f = sym (found_as_judged K x o ∙ ap (found_as (far_from (at_end (spot_named x) (offset_read K x o)) K.wires)) (sym e ∙ f))
-
   pub end_asked : j ≡ Ok tt → (y : Option RowEnd) {t : EndTest} {a : Result (Option SketchEnd) Reason} → t ≡ ask.AtEnd x (offset_read K x o) → far_of y ≡ far_from (end_hits t) K.wires → a ≡ end_found (far_of y) → a ≡ subport_link K x o
   end_asked f y {t} {a} u v c =
       c ∙ ap end_found (v ∙ ap (λ (z : EndTest). far_from (end_hits z) K.wires) u)

@@ -14,6 +14,9 @@ pub record Held : Type 0 where
   pub wires : List Row
   pub totals : Totals
 
+abbrev pub held_in : List Row → List Row → List Row → Totals → Held
+held_in b s w h = record { blocks = b; splits = s; wires = w; totals = h }
+
 -- what the fields of a sketch amount to
 abbrev pub held : Release → ℕ → Rows → Rows → Rows → Held
 held r a b s w = record { blocks = b.rows; splits = s.rows; wires = w.rows; totals = record { release = r; adds = a; blocks = b.count; splits = s.count; wires = w.count } }

@@ -99,7 +99,7 @@ clean_as K x y (Ok u) = both_linked K x y
 clean_as K x y (Err q) = leaves K (Err q)
 
 module _ (K : Plan) (x y : SketchPort) where
-  link_as_judged : link_ports K x y ≡ link_as K x y (judge_ports K x y)
+  pub link_as_judged : link_ports K x y ≡ link_as K x y (judge_ports K x y)
   unfolding link_ports judge_ports
   link_as_judged = go (is_there K x) (input_taken K x y) (is_there K y) (same_side x.side y.side) (is_full K)
     where
@@ -118,7 +118,7 @@ module _ (K : Plan) (x y : SketchPort) where
       go true false true false true = refl
       go true false true false false = refl
 
-  clean_as_judged : link_clean K x y ≡ clean_as K x y (judge_ports K x y)
+  pub clean_as_judged : link_clean K x y ≡ clean_as K x y (judge_ports K x y)
   unfolding link_clean judge_ports
   clean_as_judged = go (is_there K x) (input_taken K x y) (is_there K y) (same_side x.side y.side) (is_full K)
     where
@@ -156,13 +156,6 @@ known_judged K x y = go (is_there K x) refl (input_taken K x y) (is_there K y) r
     go true p false true q false r true t = tt
     go true p false true q false r false t = (p, (q, (r, t)))
 
-module _ (b s w : List Row) (h : Totals) (wf : SketchWf b s w h) (x y : SketchPort) where
-  abbrev K : Plan
-  K = plan_in b s w h
-
-  pub clean_refused : {r : Reason} → Err r ≡ judge_ports K x y → Leaves link_numbers (link_clean K x y) b s w h (Err r)
-  clean_refused {r} e = leaves_as K (Err r) (clean_as_judged K x y ∙ ap (clean_as K x y) (sym e)) refl refl wf
-
 module _ (b s w : List Row) (h : Totals) (wf : SketchWf b s w h) (x y : SketchPort) {j : Result (Unit {0}) Reason} (e : j ≡ judge_ports (plan_in b s w h) x y) where
   known : {i : Result (Unit {0}) Reason} → j ≡ i → Known (plan_in b s w h) x y i
   known f = subst (Known (plan_in b s w h) x y) (sym e ∙ f) (known_judged (plan_in b s w h) x y)
@@ -179,24 +172,3 @@ module _ (b s w : List Row) (h : Totals) (wf : SketchWf b s w h) (x y : SketchPo
 
   pub judged_sides : j ≡ Err SameSide → (is_there (plan_in b s w h) x ≡ true) × (is_there (plan_in b s w h) y ≡ true)
   judged_sides f = known f
-
-  pub link_second : j ≡ Err UnknownSecondPort → {b' s' w' : List Row} {h' : Totals} → IsPlan (ready (plan_in b s w h) x) b' s' w' h' → Leaves link_numbers (link_ports (plan_in b s w h) x y) b' s' w' h' (Err UnknownSecondPort)
-  link_second f q = leaves_as (ready (plan_in b s w h) x) (Err UnknownSecondPort) (link_as_judged (plan_in b s w h) x y ∙ ap (link_as (plan_in b s w h) x y) (sym e ∙ f)) q.plan refl q.wf
-
-  pub link_sides : j ≡ Err SameSide → {b₁ s₁ w₁ : List Row} {h₁ : Totals} → IsPlan (ready (plan_in b s w h) x) b₁ s₁ w₁ h₁ → {b' s' w' : List Row} {h' : Totals} → IsPlan (ready (plan_in b₁ s₁ w₁ h₁) y) b' s' w' h' →
-      Leaves link_numbers (link_ports (plan_in b s w h) x y) b' s' w' h' (Err SameSide)
-  link_sides f q r = leaves_as (ready (ready (plan_in b s w h) x) y) (Err SameSide) (link_as_judged (plan_in b s w h) x y ∙ ap (link_as (plan_in b s w h) x y) (sym e ∙ f)) (r.plan ∙ ap (λ (k : Plan). ready k y) q.plan) refl r.wf
-
-  pub link_refused : {r : Reason} → j ≡ Err r → (r ≡ UnknownSecondPort → ⊥) → (r ≡ SameSide → ⊥) → Leaves link_numbers (link_ports (plan_in b s w h) x y) b s w h (Err r)
-  link_refused {r} f m n = leaves_as (plan_in b s w h) (Err r) (link_as_judged (plan_in b s w h) x y ∙ ap (link_as (plan_in b s w h) x y) (sym e ∙ f) ∙ keeps_none r m n) refl refl wf
-    where
-      keeps_none : (q : Reason) → (q ≡ UnknownSecondPort → ⊥) → (q ≡ SameSide → ⊥) → link_as (plan_in b s w h) x y (Err q) ≡ leaves (plan_in b s w h) (Err q)
-      keeps_none UnknownSecondPort m n = absurd (m refl)
-      keeps_none SameSide m n = absurd (n refl)
-      keeps_none q m n = refl
-
-  pub link_made : j ≡ Ok tt → {b' s' w' : List Row} {h' : Totals} {a : Result (SketchEnd × SketchEnd) Reason} → Leaves link_numbers (both_linked (plan_in b s w h) x y) b' s' w' h' a → Leaves link_numbers (link_ports (plan_in b s w h) x y) b' s' w' h' a
-  link_made f {b'} {s'} {w'} {h'} {a} p = subst (λ (c : Sketched (Result (SketchEnd × SketchEnd) Reason)). Leaves link_numbers c b' s' w' h' a) (sym (link_as_judged (plan_in b s w h) x y ∙ ap (link_as (plan_in b s w h) x y) (sym e ∙ f))) p
-
-  pub clean_made : j ≡ Ok tt → {b' s' w' : List Row} {h' : Totals} {a : Result (SketchEnd × SketchEnd) Reason} → Leaves link_numbers (both_linked (plan_in b s w h) x y) b' s' w' h' a → Leaves link_numbers (link_clean (plan_in b s w h) x y) b' s' w' h' a
-  clean_made f {b'} {s'} {w'} {h'} {a} p = subst (λ (c : Sketched (Result (SketchEnd × SketchEnd) Reason)). Leaves link_numbers c b' s' w' h' a) (sym (clean_as_judged (plan_in b s w h) x y ∙ ap (clean_as (plan_in b s w h) x y) (sym e ∙ f))) p

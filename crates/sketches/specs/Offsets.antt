@@ -12,7 +12,6 @@ use Rattle.std.proofs.lemmas.List.{length-replicate, get_or-replicate}
 use Rattle.std.proofs.lemmas.Bool.{eqb-false}
 use Rattle.port_tables.specs.Listing.{length_map}
 use Rattle.port_tables.specs.Places.{Place, Wire, Spot, at_spot, at_end, any_touches, lowest_unwired}
-use Rattle.sketches.specs.Plan.{above_end, above_wired}
 use Rattle.sketches.specs.Rows.{row_slots, rows_in, row_at, wire_of, wires_in}
 use Rattle.sketches.specs.declared.rows.Row.{Row}
 use Rattle.sketches.specs.CallParts.{mark, marked, Marks}
@@ -123,14 +122,6 @@ marks_turn s t i r m {x} {y} {m'} k e p q a b =
     (subst (λ (l : List Wire). Marks s l (marked s (wire_of r).into (marked s (wire_of r).out m)))
     (ap (λ (z : Row). wire_of z ∷ wires_in t i) e ∙ sym (wires_more t i))
     (marks_more s (wires_in t i) (wire_of r) m k))
-
-pub above_turn : (s : Spot) (t : List Row) (i : ℕ) {r : Row} {n n' : ℕ} → n ≡ above_wired s (wires_in t i) → r ≡ row_at t i →
-    n' ≡ above_end s (wire_of r).out (above_end s (wire_of r).into n) → n' ≡ above_wired s (wires_in t (i + 1))
-unfolding above_wired
-above_turn s t i {r} e p h =
-    h ∙ ap (λ (k : ℕ). above_end s (wire_of r).out (above_end s (wire_of r).into k)) e
-    ∙ ap (λ (z : Row). above_wired s (wire_of z ∷ wires_in t i)) p
-    ∙ ap (above_wired s) (sym (wires_more t i))
 
 pub length_wires : (t : List Row) (n : ℕ) → length (wires_in t n) ≡ n
 length_wires t n = length_map wire_of (rows_in t n) ∙ length_rows t n

@@ -1,7 +1,6 @@
 -- What is found among the rows of a table is what the definitions read off the lists.
-use Rattle.std.specs.Prelude.{◌≡◌, refl, Bool, true, false, cond, not, List, [], ◌∷◌, map, ℕ, eqb}
+use Rattle.std.specs.Prelude.{◌≡◌, refl, Bool, true, false, cond, not, List, [], ◌∷◌, map, ℕ, eqb, Option, Some, None}
 use Rattle.std.proofs.Common.{sym}
-use Rattle.std.specs.Option.{option_map_or}
 use Rattle.std.specs.List.{filter}
 use denote.Enum.Bare.{sameb}
 use mathlib.Core.Bool.{◌&&◌}
@@ -9,11 +8,10 @@ use Rattle.port_tables.specs.Entries.{same_side, new_count}
 use Rattle.port_tables.specs.SameSides.{sides_compared}
 use Rattle.port_tables.specs.contracts.direction.Direction.{the_type}
 use Rattle.port_tables.specs.declared.direction.Direction.{Direction}
-use Rattle.port_tables.specs.declared.direction.Direction.TheVariants.{Incoming, Outgoing}
 use Rattle.port_tables.specs.Places.{at_spot, at_end, touches, any_touches, without}
 use Rattle.sketches.specs.Plan.{PlanBlock, has_block, ports_on_side, spot_named, subports_among}
 use Rattle.port_tables.specs.Listing.{filter_map}
-use Rattle.sketches.specs.Rows.{block_of, split_of, wire_of, place_in, end_hits, hits, missed, no_row, first, newest_of, is_there_any}
+use Rattle.sketches.specs.Rows.{block_of, split_of, wire_of, place_in, end_hits, hits, missed, first, is_there_any}
 use Rattle.sketches.specs.declared.rows.Row.{Row}
 use Rattle.sketches.specs.declared.sketch.SketchPort.{SketchPort}
 use Rattle.sketches.specs.declared.tests.RowEnd.{RowEnd}
@@ -53,36 +51,35 @@ block_found_lem n (r ∷ l) = go (eqb r.0 n) (block_found_lem n l)
 
 -- What is read of the first row; 0 where there is none.
 
-pub first_read : (f : Row → ℕ) → f no_row ≡ 0 → (l : List Row) → option_map_or f (first l) 0 ≡ f (newest_of l)
-unfolding newest_of
-first_read f e [] = sym e
-first_read f e (r ∷ l) = refl
-
 abbrev pub count_on : Direction → Row → ℕ
 count_on d r = new_count r.1 r.2 d
 
-pub ports_found : (n : ℕ) (d : Direction) (l : List Row) → count_on d (newest_of (filter (hits (test.Block n)) l)) ≡ ports_on_side (map block_of l) n d
-unfolding ports_on_side newest_of
-ports_found n Incoming [] = refl
-ports_found n Outgoing [] = refl
-ports_found n d (r ∷ l) = go (eqb r.0 n) (ports_found n d l)
+-- what is read of the first row, if there is one
+abbrev pub ports_first : Direction → Option Row → ℕ
+ports_first d None = 0
+ports_first d (Some r) = count_on d r
+
+pub ports_read : (n : ℕ) (d : Direction) (l : List Row) → ports_on_side (map block_of l) n d ≡ ports_first d (first (filter (hits (test.Block n)) l))
+unfolding ports_on_side
+ports_read n d [] = refl
+ports_read n d (r ∷ l) = go (eqb r.0 n) (ports_read n d l)
   where
-    go : (b : Bool) → count_on d (newest_of (filter (hits (test.Block n)) l)) ≡ ports_on_side (map block_of l) n d →
-        count_on d (newest_of (cond b (r ∷ filter (hits (test.Block n)) l) (filter (hits (test.Block n)) l))) ≡ cond b (count_on d r) (ports_on_side (map block_of l) n d)
+    go : (b : Bool) → ports_on_side (map block_of l) n d ≡ ports_first d (first (filter (hits (test.Block n)) l)) →
+        cond b (count_on d r) (ports_on_side (map block_of l) n d) ≡ ports_first d (first (cond b (r ∷ filter (hits (test.Block n)) l) (filter (hits (test.Block n)) l)))
     go true e = refl
     go false e = e
 
-pub no_ports : (d : Direction) → count_on d no_row ≡ 0
-no_ports Incoming = refl
-no_ports Outgoing = refl
+abbrev pub subports_first : Option Row → ℕ
+subports_first None = 0
+subports_first (Some r) = r.3
 
-pub subports_found : (p : SketchPort) (l : List Row) → (newest_of (filter (hits (test.Split (ask.AtPort p))) l)).3 ≡ subports_among (map split_of l) (spot_named p)
-unfolding subports_among newest_of
-subports_found p [] = refl
-subports_found p (r ∷ l) = go (at_spot (spot_named p) (split_of r)) (subports_found p l)
+pub subports_read : (p : SketchPort) (l : List Row) → subports_among (map split_of l) (spot_named p) ≡ subports_first (first (filter (hits (test.Split (ask.AtPort p))) l))
+unfolding subports_among
+subports_read p [] = refl
+subports_read p (r ∷ l) = go (at_spot (spot_named p) (split_of r)) (subports_read p l)
   where
-    go : (b : Bool) → (newest_of (filter (hits (test.Split (ask.AtPort p))) l)).3 ≡ subports_among (map split_of l) (spot_named p) →
-        (newest_of (cond b (r ∷ filter (hits (test.Split (ask.AtPort p))) l) (filter (hits (test.Split (ask.AtPort p))) l))).3 ≡ cond b r.3 (subports_among (map split_of l) (spot_named p))
+    go : (b : Bool) → subports_among (map split_of l) (spot_named p) ≡ subports_first (first (filter (hits (test.Split (ask.AtPort p))) l)) →
+        cond b r.3 (subports_among (map split_of l) (spot_named p)) ≡ subports_first (first (cond b (r ∷ filter (hits (test.Split (ask.AtPort p))) l) (filter (hits (test.Split (ask.AtPort p))) l)))
     go true e = refl
     go false e = e
 

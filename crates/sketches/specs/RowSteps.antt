@@ -1,6 +1,6 @@
 -- Turns of the loops over a table, and what a store of a row leaves.
 use Rattle.std.specs.Prelude.{◌≡◌, Bool, cond, Option, Some, None, is_some}
-use Rattle.std.proofs.Math.Path.{refl, sym, ap, subst}
+use Rattle.std.proofs.Math.Path.{refl, sym, ap}
 use Rattle.std.proofs.Common.{◌∙◌, length-set, get_or-set_same, get_or-set_other, get_or, take}
 use Rattle.std.proofs.lemmas.List.{get_or-take}
 use Rattle.std.proofs.lemmas.List.Sums.{count_by_more_yes, count_by_more_no, sum_by_more}
@@ -16,7 +16,8 @@ use Rattle.std.proofs.Math.Dec.{eqb, leb}
 use Rattle.std.specs.List.{filter}
 use Rattle.sketches.specs.Searches.{Searched, SearchedBack}
 use Rattle.sketches.specs.Plan.{PlanBlock, ports_in_all}
-use Rattle.sketches.specs.Rows.{row_at, put_row, rows_in, Table, newest_hit, oldest_hit, block_of, past, first, is_there_any, no_row}
+use Rattle.sketches.specs.Rows.{hits, row_at, put_row, rows_in, Table, newest_hit, oldest_hit, block_of, past, first, is_there_any, no_row}
+use Rattle.sketches.specs.declared.tests.Test.{Test}
 use Rattle.sketches.specs.declared.rows.Row.{Row}
 
 -- The newest and the oldest row that is hit.
@@ -114,6 +115,11 @@ rows_before t k r zero h = refl
 rows_before t k r (suc n) h =
     rw (put_other t k r n (λ e. omega arith), rows_before t k r n (omega arith))
 
+-- so many rows and the next
+pub rows_more : (t : List Row) (i : ℕ) → rows_in t (i + 1) ≡ row_at t i ∷ rows_in t i
+unfolding rows_in
+rows_more t i = rw (add-one i)
+
 -- one more row
 pub row_added : (t : List Row) (k : ℕ) (r : Row) → Table t → k < 3072 → rows_in (put_row t k r) (k + 1) ≡ r ∷ rows_in t k
 unfolding rows_in
@@ -128,44 +134,6 @@ pub record Closing (f : Row → Bool) (t₀ : List Row) (count : ℕ) (t : List 
   pub rest : (j : ℕ) → kept ≤ j → row_at t j ≡ row_at t₀ j
   pub rows : rows_in t kept ≡ filter f (rows_in t₀ i)
 
-module _ (f : Row → Bool) (t₀ : List Row) (count : ℕ) where
-  pub closing_begins : Table t₀ → Closing f t₀ count t₀ 0 0
-  unfolding rows_in
-  closing_begins h = record { within = omega arith; fewer = omega arith; table = h; rest = λ j l. refl; rows = refl }
-
-  pub closing_row : (t : List Row) (kept i : ℕ) → Closing f t₀ count t kept i → row_at t i ≡ row_at t₀ i
-  closing_row t kept i c = c.rest i c.fewer
-
-  pub closing_keeps : (t u : List Row) (kept kept' i : ℕ) (r : Row) → count ≤ 3072 → i < count → Closing f t₀ count t kept i → r ≡ row_at t i → f r ≡ true →
-      u ≡ put_row t kept r → kept' ≡ kept + 1 → Closing f t₀ count u kept' (i + 1)
-  closing_keeps t u kept kept' i r n l c e h p q =
-      let a = c.fewer in
-      let w = c.table in
-      let at = e ∙ closing_row t kept i c in
-      let k : f (row_at t₀ i) ≡ true = subst (λ (x : Row). f x ≡ true) at h in
-      record {
-        within = omega arith;
-        fewer = omega arith;
-        table = ap length p ∙ length_put t kept r ∙ w;
-        rest = λ j s. ap (λ (x : List Row). row_at x j) p ∙ put_other t kept r j (λ e. omega arith) ∙ c.rest j (omega arith);
-        rows = ap (rows_in u) q ∙ ap (λ (x : List Row). rows_in x (kept + 1)) p ∙ row_added t kept r w (omega arith) ∙ ap (λ (x : Row). x ∷ rows_in t kept) at ∙ ap (λ (x : List Row). row_at t₀ i ∷ x) c.rows ∙ sym (one_more_kept f t₀ i k);
-      }
-
-  pub closing_drops : (t u : List Row) (kept kept' i : ℕ) → i < count → Closing f t₀ count t kept i → f (row_at t i) ≡ false → u ≡ t → kept' ≡ kept → Closing f t₀ count u kept' (i + 1)
-  closing_drops t u kept kept' i l c h p q =
-      let a = c.fewer in
-      let k : f (row_at t₀ i) ≡ false = subst (λ (x : Row). f x ≡ false) (closing_row t kept i c) h in
-      record {
-        within = omega arith;
-        fewer = omega arith;
-        table = ap length p ∙ c.table;
-        rest = λ j s. ap (λ (x : List Row). row_at x j) p ∙ c.rest j (omega arith);
-        rows = ap (rows_in u) q ∙ ap (λ (x : List Row). rows_in x kept) p ∙ c.rows ∙ sym (none_more_hit f t₀ i k);
-      }
-
-  pub closing_ends : (t : List Row) (kept i : ℕ) → count ≤ i → Closing f t₀ count t kept i → rows_in t kept ≡ filter f (rows_in t₀ count)
-  closing_ends t kept i h c = let l = c.within in let e : i ≡ count = omega arith in c.rows ∙ ap (λ (n : ℕ). filter f (rows_in t₀ n)) e
-
 -- Changing: the rows so far are changed, and what comes is as it was.
 
 pub record Changing (g : PlanBlock → PlanBlock) (t₀ : List Row) (count : ℕ) (t : List Row) (i : ℕ) : Type 0 where
@@ -173,33 +141,6 @@ pub record Changing (g : PlanBlock → PlanBlock) (t₀ : List Row) (count : ℕ
   pub table : Table t
   pub rest : (j : ℕ) → i ≤ j → row_at t j ≡ row_at t₀ j
   pub rows : map block_of (rows_in t i) ≡ map g (map block_of (rows_in t₀ i))
-
-module _ (g : PlanBlock → PlanBlock) (t₀ : List Row) (count : ℕ) where
-  pub changing_turns : (t u : List Row) (i : ℕ) (r s : Row) → count ≤ 3072 → i < count → Changing g t₀ count t i → r ≡ row_at t i → block_of s ≡ g (block_of r) →
-      u ≡ put_row t i s → Changing g t₀ count u (i + 1)
-  unfolding rows_in
-  changing_turns t u i r s n l c e h p =
-      let w = c.table in
-      let at : row_at t i ≡ row_at t₀ i = c.rest i (omega arith) in
-      record {
-        within = omega arith;
-        table = ap length p ∙ length_put t i s ∙ w;
-        rest = λ j x. ap (λ (y : List Row). row_at y j) p ∙ put_other t i s j (λ e. omega arith) ∙ c.rest j (omega arith);
-        rows =
-            ap (λ (x : List Row). map block_of (rows_in x (i + 1))) p ∙ ap (map block_of) (row_added t i s w (omega arith))
-            ∙ ap (λ (x : PlanBlock). x ∷ map block_of (rows_in t i)) (h ∙ ap (λ (x : Row). g (block_of x)) (e ∙ at))
-            ∙ rw (add-one i) (ap (λ (x : List PlanBlock). g (block_of (row_at t₀ i)) ∷ x) c.rows);
-      }
-
-  pub changing_ends : (t : List Row) (i : ℕ) → count ≤ i → Changing g t₀ count t i → map block_of (rows_in t count) ≡ map g (map block_of (rows_in t₀ count))
-  changing_ends t i h c =
-      let l = c.within in
-      let e : i ≡ count = omega arith in
-      subst (λ (n : ℕ). map block_of (rows_in t n) ≡ map g (map block_of (rows_in t₀ n))) e c.rows
-
--- Ports that are counted.
-
--- Neighbours.
 
 -- The newest row that is hit is the first of those that are.
 
@@ -231,20 +172,28 @@ newest_some f t (suc n) k e = go (f (row_at t n)) refl (rw (le-leb 0 n (omega ar
         let l = r.1 in
         (rw p r.0, omega arith)
 
-module _ (f : Row → Bool) (t : List Row) (n : ℕ) (k : Option ℕ) (found : past k ≡ newest_hit f t 0 n) where
-  pub any_found : is_some k ≡ is_there_any (filter f (rows_in t n))
-  any_found = go k found
+-- the row before a place; none before the first
+abbrev pub row_before : List Row → ℕ → Option Row
+row_before t zero = None
+row_before t (suc i) = Some (row_at t i)
+
+module _ (q : Test) (t : List Row) (n : ℕ) where
+  pub newest_is_none : newest_hit (hits q) t 0 n ≡ 0 → first (filter (hits q) (rows_in t n)) ≡ None
+  newest_is_none e = ap first (newest_none (hits q) t n e)
+
+  pub newest_is : 0 < newest_hit (hits q) t 0 n → first (filter (hits q) (rows_in t n)) ≡ Some (row_at t (newest_hit (hits q) t 0 n - 1))
+  newest_is l = let e : newest_hit (hits q) t 0 n ≡ suc (newest_hit (hits q) t 0 n - 1) = omega arith in ap first (newest_some (hits q) t n (newest_hit (hits q) t 0 n - 1) e).0
+
+  pub any_read : is_there_any (filter (hits q) (rows_in t n)) ≡ is_some (row_before t (newest_hit (hits q) t 0 n))
+  any_read = go (newest_hit (hits q) t 0 n) refl
     where
-      go : (m : Option ℕ) → past m ≡ newest_hit f t 0 n → is_some m ≡ is_there_any (filter f (rows_in t n))
-      go None e = sym (ap is_there_any (newest_none f t n (sym e)))
-      go (Some m) e = sym (ap is_there_any (newest_some f t n m (sym e)).0)
+      go : (k : ℕ) → newest_hit (hits q) t 0 n ≡ k → is_there_any (filter (hits q) (rows_in t n)) ≡ is_some (row_before t k)
+      go zero e = ap is_there_any (newest_none (hits q) t n e)
+      go (suc k) e = ap is_there_any (newest_some (hits q) t n k e).0
 
-  pub newest_is_none : k ≡ None → None ≡ first (filter f (rows_in t n))
-  newest_is_none z = sym (ap first (newest_none f t n (sym found ∙ ap past z)))
-
-  module _ {i : ℕ} (z : k ≡ Some i) where
-    pub newest_within : i < n
-    newest_within = (newest_some f t n i (sym found ∙ ap past z)).1
-
-    pub newest_is : Some (row_at t i) ≡ first (filter f (rows_in t n))
-    newest_is = sym (ap first (newest_some f t n i (sym found ∙ ap past z)).0)
+  pub newest_few : newest_hit (hits q) t 0 n ≤ n
+  newest_few = go (newest_hit (hits q) t 0 n) refl
+    where
+      go : (k : ℕ) → newest_hit (hits q) t 0 n ≡ k → k ≤ n
+      go zero e = omega arith
+      go (suc k) e = let l = (newest_some (hits q) t n k e).1 in omega arith

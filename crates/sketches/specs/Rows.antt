@@ -104,11 +104,6 @@ abbrev pub first : List Row → Option Row
 first [] = None
 first (r ∷ l) = Some r
 
--- one of zeros where there is none
-unfoldable pub newest_of : List Row → Row
-newest_of [] = no_row
-newest_of (r ∷ l) = r
-
 -- whether there is one
 abbrev pub is_there_any : List Row → Bool
 is_there_any [] = false

@@ -1,8 +1,7 @@
 -- A sheet over the tables: the entries that are left, on the tables as they are, amount to the whole.
-use Rattle.std.specs.Prelude.{◌≡◌, refl, List, [], ◌++◌, ℕ, ◌+◌, ◌≤◌, ◌<◌, length, take, drop, Result, Ok, Err}
+use Rattle.std.specs.Prelude.{◌≡◌, refl, List, [], ◌++◌, ℕ, ◌≤◌, ◌<◌, length, take, drop, Result, Ok, Err}
 use Rattle.std.proofs.Common.{sym, ap, ◌∙◌, append-nil, arith, take_all, lt-ltb, le-ltb}
 use Rattle.std.proofs.Math.ListN.{drop_of_length-le}
-use Rattle.std.proofs.lemmas.List.{drop-drop}
 use Rattle.sketches.specs.Plan.{Plan}
 use Rattle.sketches.specs.PlanCalls.{Sketched, leaves, sheet_entries, sheet_plan, sheet_answered, sheet}
 use Rattle.sketches.specs.PlanNumbers.{sheet_numbers}
@@ -37,12 +36,6 @@ pub record Sheeting (K : Plan) (es : List SheetEntry) (k : Held) (done : List Sh
   pub plan : sheet_plan (plan_of k) (drop i es) ≡ sheet_plan K es
   pub answers : take i done ++ sheet_answered (plan_of k) (drop i es) ≡ sheet_answered K es
   pub rest : drop i done ≡ drop i es
-
-pub sheeting_begins : (k : Held) (es : List SheetEntry) → Sheeting (plan_of k) es k es 0
-sheeting_begins k es = record { long = refl; plan = refl; answers = refl; rest = refl }
-
-rest_of_it : {K : Plan} {es : List SheetEntry} {k : Held} {done : List SheetEntry} {i : ℕ} → Sheeting K es k done i → i < length done → drop (i + 1) done ≡ drop (i + 1) es
-rest_of_it {K} {es} {k} {done} {i} c l = sym (drop-drop 1 i done) ∙ ap (drop 1) c.rest ∙ drop-drop 1 i es
 
 pub sheeting_ends : {K : Plan} {es : List SheetEntry} {k : Held} {done : List SheetEntry} {i : ℕ} → length es ≤ sheet_entries → Sheeting K es k done i → length done ≤ i → SheetLeaves K es k done (Ok tt)
 unfolding sheet_plan sheet_answered

@@ -42,9 +42,6 @@ split_row_is p c = ap (λ (d : Direction). record { node = p.block; side = d; po
     own Outgoing = refl
 
 module _ (t : List Row) (n : ℕ) (p : SketchPort) (c : ℕ) where
-  pub subports_same : {k : ℕ} → k ≡ subports_among (splits_in t n) (spot_named p) → k ≡ c → splits_in t n ≡ splits_with (splits_in t n) p c
-  subports_same e h = rw (eq-eqb (subports_among (splits_in t n) (spot_named p)) c (sym e ∙ h))
-
   module _ {k : ℕ} (e : k ≡ subports_among (splits_in t n) (spot_named p)) (h : k ≡ c → ⊥) (t' : List Row) (kept : ℕ) (d : rows_in t' kept ≡ filter (missed (test.Split (ask.AtPort p))) (rows_in t n)) where
     others : splits_in t' kept ≡ filter (λ s. not (at_spot (spot_named p) s)) (splits_in t n)
     others = ap (map split_of) d ∙ splits_left (ask.AtPort p) (rows_in t n)

@@ -1,5 +1,5 @@
 -- A step of each walk over the tables.
-use Rattle.std.specs.Prelude.{◌≡◌, refl, Bool, true, false, cond, List, ◌∷◌, eqb, leb, Option, Some, None, Ok, Err}
+use Rattle.std.specs.Prelude.{◌≡◌, refl, Bool, true, false, cond, List, ◌∷◌, eqb, leb, Option, Some, None, Ok}
 use Rattle.std.proofs.Common.{sym, ◌∙◌, inl, inr}
 use Rattle.std.proofs.Math.Path.{ap}
 use Prim.Native.Nat.{ℕ, zero, suc, ◌+◌, ◌-◌, ◌≤◌, ◌<◌, min, max}
@@ -10,23 +10,18 @@ use Rattle.port_tables.specs.Lists.{Member}
 use Rattle.port_tables.specs.Listing.{map_member}
 use Rattle.sketches.specs.Plan.{Plan, ports_on_side, subports_of, end#}
 use Rattle.sketches.specs.PlanLists.{port_on}
-use Rattle.sketches.specs.PlanWf.{PlanWf, most_subports}
-use Rattle.sketches.specs.CallsWf.{subports_within}
+use Rattle.sketches.specs.PlanWf.{most_subports}
 use Rattle.sketches.specs.Rows.{row_at, rows_in, wire_of, hits, past, newest_hit, oldest_hit}
 use Rattle.sketches.specs.SketchTables.{Totals, SketchWf}
 use Rattle.sketches.specs.declared.rows.Row.{Row}
 use Rattle.sketches.specs.declared.tests.Walk.{Walk}
 use Rattle.sketches.specs.declared.walks.SketchWire.{SketchWire}
 use Rattle.sketches.specs.declared.walks.SubportWalk.{SubportWalk}
-use Rattle.sketches.specs.declared.sketch.SketchPort.{SketchPort}
 use Rattle.sketches.specs.declared.sketch.Reason.{Reason}
 use Rattle.sketches.specs.SketchWalks.{start_of, wire_held, wire_below, wire_above, next_wire, previous_wire, block_below, next_block, offset_count, Knows, next_subport}
 
 pub started : {A : Type 0} (b : Bool) (r : Reason) (w : A) → b ≡ true → Ok w ≡ start_of b r w
 started b r w e = rw e
-
-pub not_started : {A : Type 0} (b : Bool) (r : Reason) (w : A) → b ≡ false → Err r ≡ start_of b r w
-not_started b r w e = rw e
 
 pub newest_high : (f : Row → Bool) (t : List Row) (low n : ℕ) → newest_hit f t low n ≤ n
 unfolding newest_hit
@@ -118,8 +113,8 @@ module _ (t : List Row) (n : ℕ) (w : Walk) (k : Option ℕ) where
 
 -- Subports.
 
-pub knows_more : (K : Plan) (x : SketchPort) {c n : ℕ} → PlanWf K → c ≡ subports_of K x → n ≡ max c 1 → Knows K x n
-knows_more K x {c} {n} wf e f = let l = subports_within K x wf in record { count = f ∙ go (eqb c 0) refl ∙ ap offset_count e; within = omega arith }
+pub one_or_more : (c : ℕ) → max c 1 ≡ offset_count c
+one_or_more c = go (eqb c 0) refl
   where
     go : (b : Bool) → eqb c 0 ≡ b → max c 1 ≡ cond b 1 c
     go true t = let z = eqb-true c 0 t in omega arith

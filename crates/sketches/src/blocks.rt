@@ -25,7 +25,7 @@ impl Sketch {
     }
 
     // Adds a block: its name is how many adds were accepted before it.
-    #[tactic(auto, unfolding(crate::specs::PlanCalls::add_block), using(crate::specs::Held::seen_as))]
+    #[tactic(auto, unfolding(crate::specs::PlanCalls::add_block), using(crate::specs::BlockSteps::length_blocks))]
     pub fn add(&mut self, incoming: u32, outgoing: u32) -> Result<u32, Reason>
         ensures { Left add_numbers (add_block (plan_of self.old) incoming outgoing) self.new result }
     {

@@ -25,7 +25,7 @@ fn subports_left(above: usize) -> u32
 
 impl Sketch {
     // The far end of the newest wire that has such an end.
-    #[tactic(auto, using(crate::specs::CutSteps::far_nothing, crate::specs::CutSteps::far_out, crate::specs::Held::on))]
+    #[tactic(auto, using(crate::specs::CutSteps::far_read))]
     fn far_from(&self, test: EndTest) -> Option<RowEnd>
         ensures { far_of result ≡ far_from (end_hits test) (plan_of self.now).wires }
     {
@@ -53,7 +53,7 @@ impl Sketch {
     }
 
     // What an end is linked with.
-    #[tactic(auto, unfolding(crate::specs::PlanCalls::subport_link, port_tables::specs::Places::at_end), using(crate::specs::CutSteps::answers_as, crate::specs::CutSteps::far_fits, crate::specs::CutSteps::end_answered, crate::specs::CutSteps::end_refused, crate::specs::CutSteps::end_asked))]
+    #[tactic(auto, unfolding(port_tables::specs::Places::at_end), using(crate::specs::CutSteps::found_as_judged))]
     pub fn subport_link(&self, end: SketchEnd) -> Result<Option<SketchEnd>, Reason>
         ensures { Answers found_numbers (subport_link (plan_of self.now) end.port end.offset) result }
     {

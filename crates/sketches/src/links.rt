@@ -104,7 +104,7 @@ impl Sketch {
     }
 
     // Links two ports. A refusal of the second port, or of the sides, keeps what was made ready.
-    #[tactic(auto, using(crate::specs::LinkSteps::judged_linkable, crate::specs::LinkSteps::judged_second, crate::specs::LinkSteps::judged_sides, crate::specs::LinkSteps::link_refused, crate::specs::LinkSteps::link_second, crate::specs::LinkSteps::link_sides, crate::specs::LinkSteps::link_made, crate::specs::LinkSteps::both_there))]
+    #[tactic(auto, using(crate::specs::LinkSteps::judged_linkable, crate::specs::LinkSteps::judged_second, crate::specs::LinkSteps::judged_sides, crate::specs::LinkSteps::link_as_judged, crate::specs::LinkSteps::both_there))]
     pub fn link(&mut self, x: SketchPort, y: SketchPort) -> Result<(SketchEnd, SketchEnd), Reason>
         ensures { Left link_numbers (link_ports (plan_of self.old) x y) self.new result }
     {
@@ -125,7 +125,7 @@ impl Sketch {
     }
 
     // Links two ports. A refusal leaves nothing.
-    #[tactic(auto, using(crate::specs::LinkSteps::judged_linkable, crate::specs::LinkSteps::clean_refused, crate::specs::LinkSteps::clean_made))]
+    #[tactic(auto, using(crate::specs::LinkSteps::judged_linkable, crate::specs::LinkSteps::clean_as_judged))]
     pub fn link_clean(
         &mut self,
         x: SketchPort,

@@ -72,7 +72,7 @@ impl Rows {
     // One more than the highest wired offset of a port; 0 where none is wired.
     // Stays a number, as that of a sketch.
     // Stays a loop: what `fold` gives is told of the runs of its closure, and the invariant here of rows; no plainer.
-    #[tactic(auto, unfolding(crate::specs::Plan::above_wired, crate::specs::Rows::rows_in))]
+    #[tactic(auto, unfolding(crate::specs::Plan::above_wired, crate::specs::Rows::rows_in), using(crate::specs::Offsets::wires_more, crate::specs::RowSteps::row_taken))]
     fn above_wired(&self, port: SketchPort) -> usize
         ensures { result ≡ above_wired (spot_named port) (map wire_of (listed self.now)) }
     {

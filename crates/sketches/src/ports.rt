@@ -19,6 +19,7 @@ impl Rows {
 
     // How many subports a port has, in a table of split ports; 0 where it is not there.
     // Stays a number, as in `subports_of`.
+    #[tactic(auto, using(crate::specs::RowReads::subports_read))]
     pub(crate) fn subports_among(&self, port: SketchPort) -> u32
         ensures { result ≡ subports_among (map split_of (listed self.now)) (spot_named port) }
     {
@@ -49,6 +50,7 @@ impl Sketch {
     }
 
     // How many ports a block has on a side; 0 where it is not there. Stays a number: a block that is not there has no ports.
+    #[tactic(auto, using(crate::specs::RowReads::ports_read))]
     pub(crate) fn ports_on_side(&self, name: u32, side: Direction) -> u32
         ensures ports { result ≡ ports_on_side (plan_of self.now).blocks name side }
         ensures wf { HeldWf self.now }

@@ -55,7 +55,7 @@ impl Sketch {
     }
 
     // One end that is named.
-    #[tactic(auto, using(crate::specs::EndSteps::end_bad, crate::specs::EndSteps::end_unknown, crate::specs::EndSteps::end_lacks, crate::specs::EndSteps::end_fine))]
+    #[tactic(auto, unfolding(crate::specs::CallParts::judge_end))]
     pub(crate) fn judge_end(&self, end: SketchEnd) -> Result<(), Reason>
         ensures { result ≡ judge_end (plan_of self.now) end.port end.offset }
     {
@@ -90,7 +90,7 @@ impl Sketch {
     }
 
     // Two ends that are to be linked.
-    #[tactic(auto, using(crate::specs::EndSteps::ends_bad, crate::specs::EndSteps::ends_unknown, crate::specs::EndSteps::ends_lack, crate::specs::EndSteps::ends_second, crate::specs::EndSteps::ends_wired, crate::specs::EndSteps::ends_full, crate::specs::EndSteps::ends_fine))]
+    #[tactic(auto, unfolding(crate::specs::CallParts::judge_ends))]
     fn judge_ends(&self, x: SketchEnd, y: SketchEnd) -> Result<(), Reason>
         ensures { result ≡ judge_ends (plan_of self.now) x.port x.offset y.port y.offset }
     {
@@ -112,7 +112,7 @@ impl Sketch {
     }
 
     // Links two ends.
-    #[tactic(auto, using(crate::specs::EndSteps::ends_sides, crate::specs::EndSteps::ends_room, crate::specs::EndSteps::ends_linked, crate::specs::Held::seen_as, crate::specs::Held::back))]
+    #[tactic(auto, using(crate::specs::EndSteps::link_as_judged, crate::specs::EndSteps::ends_sides, crate::specs::EndSteps::ends_room))]
     pub fn link_subports(
         &mut self,
         x: SketchEnd,

@@ -48,7 +48,7 @@ impl Rows {
     }
 
     // Whether a row is hit.
-    #[tactic(auto, using(crate::specs::RowSteps::any_found))]
+    #[tactic(auto, using(crate::specs::RowSteps::any_read))]
     pub(crate) fn any(&self, test: Test) -> bool
         ensures { result ≡ is_there_any (filter (hits test) (listed self.now)) }
     {
@@ -56,7 +56,7 @@ impl Rows {
     }
 
     // The newest row that is hit.
-    #[tactic(auto, using(crate::specs::RowSteps::newest_is_none, crate::specs::RowSteps::newest_within, crate::specs::RowSteps::newest_is))]
+    #[tactic(auto, using(crate::specs::RowSteps::newest_is_none, crate::specs::RowSteps::newest_is, crate::specs::RowSteps::newest_few))]
     pub(crate) fn newest(&self, test: Test) -> Option<Row>
         ensures { result ≡ first (filter (hits test) (listed self.now)) }
     {
@@ -85,6 +85,7 @@ impl Rows {
     }
 
     // Drops the rows that are hit; the others close up. Stays a loop over the places: what is kept is stored further in front.
+    #[tactic(auto, unfolding(crate::specs::Rows::rows_in), using(crate::specs::RowSteps::one_more_kept, crate::specs::RowSteps::none_more_hit, crate::specs::RowSteps::row_added, crate::specs::RowSteps::length_put, crate::specs::RowSteps::put_other))]
     pub(crate) fn drop_where(&mut self, test: Test)
         ensures { listed self.new ≡ filter (missed test) (listed self.old) }
     {
@@ -121,7 +122,7 @@ impl Rows {
     }
 
     // Gives a block other counts. Stays a loop over the places: of a struct with ghost fields no field is lent to be changed.
-    #[tactic(auto, unfolding(crate::specs::Rows::rows_in))]
+    #[tactic(auto, unfolding(crate::specs::Rows::rows_in), using(crate::specs::RowSteps::rows_more, crate::specs::RowSteps::row_added, crate::specs::RowSteps::length_put, crate::specs::RowSteps::put_other))]
     pub(crate) fn recount(&mut self, block: Row)
         ensures { map block_of (listed self.new) ≡ map (recount block.0 block.1 block.2) (map block_of (listed self.old)) }
     {

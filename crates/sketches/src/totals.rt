@@ -29,7 +29,7 @@ impl Model for Sketch {
 
 impl Sketch {
     // An empty sketch that is made for a release.
-    #[tactic(auto, unfolding(crate::specs::Rows::rows_in))]
+    #[tactic(auto, unfolding(crate::specs::Rows::rows_in, crate::specs::Plan::ports_in_all))]
     pub fn new(release: Release) -> Sketch
         ensures { plan_of result ≡ empty_plan release }
     {

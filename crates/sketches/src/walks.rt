@@ -112,6 +112,7 @@ impl Sketch {
     }
 
     // The offsets of a port: those of its subports, or 0 alone.
+    #[tactic(auto, using(crate::specs::WalkSteps::one_or_more, crate::specs::CallsWf::subports_among_lem))]
     fn offsets_of(&self, port: SketchPort) -> u32
         ensures { Knows (plan_of self.now) port result }
     {

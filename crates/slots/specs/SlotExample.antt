@@ -2,7 +2,6 @@
 use Rattle.std.specs.Prelude.{◌≡◌, refl}
 use mathlib.Core.List.{List, [], ◌∷◌, ◌++◌, map, flat_map}
 use Rattle.port_tables.specs.Lists.{range}
-use Rattle.std.specs.List.{filter}
 use Rattle.port_tables.specs.Tables.{at, put, head_at}
 use Rattle.port_tables.specs.declared.release.Release.TheVariants.{One}
 use Rattle.theorems.specs.Book.{Call, add_call, remove_call, link_call}

@@ -24,10 +24,10 @@ use Rattle.multiportgraph.specs.CaseLaws.{subport_link_cases}
 use Rattle.multiportgraph.proofs.CutLaws.{cut_cases}
 use Rattle.port_tables.specs.Places.{Place, Wire, spot, wire_of_sides, next_offset}
 use Rattle.multiportgraph.specs.Wires.{place_of}
-use Rattle.multiportgraph.specs.WellFormed.{Fine, Seen, lift, outer, IsEnd, WireIn, SameBlocks}
+use Rattle.multiportgraph.specs.WellFormed.{Fine, Seen, lift, outer, IsEnd, WireIn, SameBlocks, HasEnd}
 use Rattle.multiportgraph.specs.Ends.{BlockPort, EndOf, end_of_unsplit, other_side, block_seen, seen_block, outer_seen, outer_apart, outer_side, ends_join_ends, end_read, place_of_sub, subport_of_lem, subport_is}
 use Rattle.multiportgraph.specs.LinkCutLaws.{LinkSubDone, LinkSubSays, link_sub_law}
-use Rattle.multiportgraph.specs.SplitLaws.{HasEnd, end_of_wire}
+use Rattle.multiportgraph.specs.SplitLaws.{end_of_wire}
 use Rattle.multiportgraph.specs.declared.multiportgraph.MultiPortGraph.{MultiPortGraph}
 use Rattle.multi_tables.specs.declared.answers.SubportIndex.{SubportIndex}
 use Rattle.multiportgraph.specs.declared.multiportgraph.PortsLinked.{PortsLinked}

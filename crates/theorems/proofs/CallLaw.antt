@@ -8,9 +8,9 @@ use Rattle.multi_tables.specs.declared.answers.Refusal.{Refusal}
 use Rattle.multi_tables.specs.declared.answers.Refusal.TheVariants.{NoRoom}
 use Rattle.theorems.specs.History.{step, entered}
 use Rattle.theorems.proofs.WireRule.{Leads}
-use Rattle.multiportgraph.specs.SpaceLaws.{Spaced}
 use Rattle.theorems.specs.Works.{works_of}
 use Rattle.theorems.specs.Conditions.{Condition, RefusedBy, leaves_prepared}
+use Rattle.multiportgraph.specs.Space.{Spaced}
 
 -- what is proved of a call on a graph that stands for a model
 pub record CallLaw (m : MultiPortGraph) (M : Model) (c : Call) : Type 0 where

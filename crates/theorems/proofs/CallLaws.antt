@@ -16,8 +16,8 @@ use Rattle.multiportgraph.specs.Graph.{empty_graph}
 use Rattle.theorems.specs.History.{step, entered, State, next, run_from, run_from_under, run, run_under}
 use Rattle.multiportgraph.specs.LinkCutLaws.{fine_empty}
 use Rattle.theorems.proofs.WireRule.{Rel, rel_start}
-use Rattle.multiportgraph.specs.Space.{room_of, after_works, overflows}
-use Rattle.multiportgraph.specs.SpaceLaws.{Spaced, room_is}
+use Rattle.multiportgraph.specs.Space.{room_of, after_works, overflows, Spaced}
+use Rattle.multiportgraph.specs.SpaceLaws.{room_is}
 use Rattle.theorems.specs.Works.{works_of}
 use Rattle.theorems.specs.Conditions.{Accepted, Condition, RefusedBy, leaves_prepared}
 use Rattle.theorems.proofs.CallLaw.{CallLaw}

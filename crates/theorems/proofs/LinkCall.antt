@@ -5,11 +5,10 @@ use Rattle.std.proofs.Math.Path.{ap}
 use Rattle.port_tables.specs.Limits.{present}
 use Rattle.port_tables.specs.Entries.{port#, same_side}
 use Rattle.portgraph.specs.Model as model
-use Rattle.portgraph.specs.Model.{Model}
+use Rattle.portgraph.specs.Model.{Model, Dead}
 use Rattle.portgraph.specs.Calls.{link_ports}
 use Rattle.portgraph.specs.GoodSlots.{zero_is_not_one}
 use Rattle.portgraph.specs.GoodLaws.{same_side_is}
-use Rattle.portgraph.specs.LinkHolds.{Dead}
 use Rattle.port_tables.specs.declared.direction.Direction.{Direction}
 use Rattle.port_tables.specs.declared.index.PortIndex.{PortIndex}
 use Rattle.multiportgraph.specs.Reading.{seen}

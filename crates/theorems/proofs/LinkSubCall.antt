@@ -3,13 +3,12 @@ use Rattle.std.specs.Prelude.{◌≡◌, refl, Bool, true, false, cond, ℕ, ◌
 use Rattle.std.proofs.Common.{sym, ◌∙◌, ap, subst, arith, ltb-true, ltb-false, lt-ltb}
 use Rattle.port_tables.specs.Entries.{port#, same_side}
 use Rattle.portgraph.specs.Model as model
-use Rattle.portgraph.specs.Model.{Model, Far, nowhere, to}
+use Rattle.portgraph.specs.Model.{Model, Far, nowhere, to, Dead}
 use Rattle.portgraph.specs.Calls as lower
 use Rattle.portgraph.specs.Calls.{link_ports}
 use Rattle.portgraph.specs.GoodSlots.{slots_apart, zero_is_not_one}
 use Rattle.portgraph.specs.GoodLaws.{same_side_is}
 use Rattle.portgraph.specs.LinkHolds as lower_laws
-use Rattle.portgraph.specs.LinkHolds.{Dead}
 use Rattle.portgraph.specs.declared.portgraph.PortsLinked as lower_ports_linked
 use Rattle.multiportgraph.specs.Reading.{seen, end_at, as_read}
 use Rattle.multi_tables.specs.Forms.{Port, dead, hidden, visible, End, inner, lacking}

@@ -1,7 +1,7 @@
 -- When the start of a walk, a lookup or a fan-out is refused: 4 exactly if the node is not live, 5 exactly if it is hidden, 7
 -- exactly if the port is not live, 8 exactly if it belongs to a hidden node, and nothing else. Else the walk starts, or the
 -- lookup answers what the graph has; fan-out is the number of links listed.
-use Rattle.std.specs.Prelude.{◌≡◌, Bool, ◌⊎◌, ◌↔◌, ℕ, ◌≤◌, Option, Some, None, Ok, Err}
+use Rattle.std.specs.Prelude.{◌≡◌, Bool, ◌↔◌, ℕ, ◌≤◌, Option, Some, None, Ok, Err}
 use Rattle.std.proofs.Math.Path.{refl, sym, ap}
 use Rattle.std.proofs.Common.{◌∙◌, subst, inl, inr, arith, length-append}
 use Rattle.std.proofs.Math.Bool.{true, false, cond}
@@ -41,29 +41,10 @@ use Rattle.theorems.proofs.WireRule.{seen_live}
 use Rattle.multiportgraph.specs.declared.multiportgraph.MultiPortGraph.{MultiPortGraph}
 use Rattle.multi_tables.specs.declared.answers.Refusal.{Refusal}
 use Rattle.multi_tables.specs.declared.answers.Refusal.TheVariants.{UnknownNode, HiddenNode, UnknownPort, HiddenPort}
-use Rattle.theorems.specs.Conditions.{OfBlock, PortIs, no_port, hidden_port, block_port, RemoveRefused, remove_unknown, remove_hidden, CutRefused, cut_dead, cut_hidden}
+use Rattle.theorems.specs.Conditions.{OfBlock, PortIs, no_port, hidden_port, block_port, remove_unknown, remove_hidden, cut_dead, cut_hidden, NodeRefused, PortRefused, BetweenRefused, NodeIs, between_unknown, between_hidden, no_node, hidden_node, block_node}
 use Rattle.theorems.specs.PortCases.{port_is, seen_block_port}
 
 -- Conditions.
-
--- at a node the conditions are those of removing a block: 4 if it is not live, 5 if it is hidden
-abbrev pub NodeRefused : MultiPortGraph → Model → ℕ → Refusal → Type 0
-NodeRefused m M n r = RemoveRefused m M n r
-
--- at a port those of cutting it: 7 if it is not live, 8 if it is a hidden node's
-abbrev pub PortRefused : MultiPortGraph → Model → ℕ → Refusal → Type 0
-PortRefused m M p r = CutRefused m M p r
-
--- from one node to another
-pub data BetweenRefused (m : MultiPortGraph) (M : Model) (n k : ℕ) : Refusal → Type 0 where
-  between_unknown : (M.node n ≡ gone) ⊎ (M.node k ≡ gone) → BetweenRefused m M n k UnknownNode
-  between_hidden : (M.node n ≡ gone → ⊥) → (M.node k ≡ gone → ⊥) → (is_hidden m n ≡ true) ⊎ (is_hidden m k ≡ true) → BetweenRefused m M n k HiddenNode
-
--- a number is no node, a hidden node, or a block
-pub data NodeIs (m : MultiPortGraph) (M : Model) (n : ℕ) : Type 0 where
-  no_node : M.node n ≡ gone → NodeIs m M n
-  hidden_node : is_hidden m n ≡ true → NodeIs m M n
-  block_node : (k : NodeMeta) → BlockIs m M n k → NodeIs m M n
 
 -- Answers that refuse as a start does.
 module _ {A : Type 0} (no : Refusal → A) (one : (r s : Refusal) → no r ≡ no s → r ≡ s) (answer : Start → A) (denied : (r : Refusal) → answer (refused r) ≡ no r)

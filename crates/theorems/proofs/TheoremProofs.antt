@@ -17,13 +17,12 @@ use Rattle.multiportgraph.specs.Calls.{link_sub, cut_sub, link_pair, link_clean}
 use Rattle.multiportgraph.specs.Wires.{wires_walked}
 use Rattle.theorems.specs.Book.{Call, Block, Book, spot_of, add_wire}
 use Rattle.theorems.specs.History.{State, step, entered, next, run}
-use Rattle.multiportgraph.specs.WellFormed.{Fine, Seen, lift, outer, IsEnd, WireIn, SameBlocks, Wiring, none}
+use Rattle.multiportgraph.specs.WellFormed.{Fine, Seen, lift, outer, IsEnd, WireIn, SameBlocks, Wiring, none, HasEnd}
 use Rattle.theorems.specs.BookLaws.{same_count}
 use Rattle.multiportgraph.specs.HiddenStays.{true_not_false}
 use Rattle.multiportgraph.specs.Ends.{seen_block, ends_join_ends}
 use Rattle.multiportgraph.specs.WalkRule.{walk_ends_lem, walked_is_wires, walked_once, same_wires_same_list}
 use Rattle.multiportgraph.specs.LinkCutLaws.{end_named, CutDone, CutSays, cut_sub_law, LinkSubSays, link_sub_law}
-use Rattle.multiportgraph.specs.SplitLaws.{HasEnd}
 use Rattle.theorems.specs.LinkLaw.{LinkSays, link_says}
 use Rattle.theorems.proofs.LinkCleanCall.{clean_says}
 use Rattle.theorems.proofs.WireRule.{Rel, OneMore, ports_link, subports_link, seen_live, has_end_touches, touches_has_end}

@@ -21,8 +21,7 @@ use Rattle.multi_tables.specs.Forms.{visible}
 use Rattle.multiportgraph.specs.Wires.{wires_walked, walk_wires, step_wires, all_wires, side_links, is_block}
 use Rattle.multiportgraph.specs.Walks.{is_seen, port_links, node_links, neighbours, connections}
 use Rattle.multiportgraph.specs.WellFormed.{Fine, MultiWf}
-use Rattle.multiportgraph.specs.Space.{room_of}
-use Rattle.multiportgraph.specs.SpaceLaws.{Spaced}
+use Rattle.multiportgraph.specs.Space.{room_of, Spaced}
 use Rattle.multiportgraph.specs.TidyLaws.{SameBlock}
 use Rattle.theorems.specs.Book.{Call, link_clean_call, set_call, tidy_call, spot_of}
 use Rattle.theorems.specs.History.{State, step, next, run_from, run}

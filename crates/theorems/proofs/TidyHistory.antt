@@ -25,7 +25,7 @@ use Rattle.multi_tables.specs.Forms.{Port, dead, hidden, visible}
 use Rattle.multiportgraph.specs.Calls.{tidy_port, add_block, added_as}
 use Rattle.multiportgraph.specs.Cases.{tidy_seen}
 use Rattle.multiportgraph.specs.CaseLaws.{add_cases, tidy_cases}
-use Rattle.multiportgraph.specs.WellFormed.{inner#, Fine, Seen, lift, WireIn, SameBlocks, MultiWf}
+use Rattle.multiportgraph.specs.WellFormed.{inner#, Fine, Seen, lift, WireIn, SameBlocks, MultiWf, HasEnd}
 use Rattle.multiportgraph.specs.Ends.{BlockPort, split_has_copy, unsplit_no_copy, outer_of_subport, outer_of_block, lift_place, block_seen, seen_block, ports_walked_lem, count_of_lem}
 use Rattle.multiportgraph.specs.HiddenStays.{true_not_false}
 use Rattle.multiportgraph.specs.WalkRule.{same_wires_same_list}
@@ -34,7 +34,7 @@ use Rattle.multiportgraph.specs.Space.{Room, room_of, Work, take_node, take_bloc
 use Rattle.multiportgraph.specs.SpaceLaws.{room_of_graph, overfull, overflows_at_end}
 use Rattle.multiportgraph.specs.Tidy.{subports_left, tidied}
 use Rattle.multiportgraph.specs.TidyLaws.{TidySays, TidyLeft, SameBlock, tidy_port_law, tidy_left, left_linked, tidy_again, tidied_split}
-use Rattle.multiportgraph.specs.SplitLaws.{HasEnd, end_of_wire, wire_of_end}
+use Rattle.multiportgraph.specs.SplitLaws.{end_of_wire, wire_of_end}
 use Rattle.multiportgraph.specs.declared.multiportgraph.MultiPortGraph.{MultiPortGraph}
 use Rattle.port_tables.specs.declared.release.Release.{Release}
 use Rattle.multi_tables.specs.declared.answers.Refusal.{Refusal}

@@ -17,7 +17,7 @@ use Rattle.port_tables.specs.declared.direction.Direction.TheVariants.{Incoming,
 use Rattle.port_tables.specs.declared.node_entry.NodeMeta.{NodeMeta}
 use Rattle.theorems.specs.Book.{empty_book, read_by, Block, Book, with_wires, spot_among, spot_of, add_wire, not_block, book_add, book_remove, book_set, book_link, book_link_sub, book_cut}
 use Rattle.port_tables.specs.Places.{without, next_offset, Place, Wire, Spot, spot, at_end, touches, wire_of_sides}
-use Rattle.multiportgraph.specs.WellFormed.{inner#, Fine, BlockIs, Seen, lift, WireIn, SameBlocks, Wiring, none, SameWires}
+use Rattle.multiportgraph.specs.WellFormed.{inner#, Fine, BlockIs, Seen, lift, WireIn, SameBlocks, Wiring, none, SameWires, HasEnd}
 use Rattle.theorems.specs.BookLaws.{not_so_true, or_true, left_once, wire_stays, stayed_wire, among_run, beside_run, any_touches_lem, none_touches, next_offset_lem}
 use Rattle.port_tables.specs.Listing.{member_filter, filter_member, rising_filter, length_range}
 use Rattle.multiportgraph.specs.HiddenStays.{true_not_false}
@@ -25,7 +25,6 @@ use Rattle.multiportgraph.specs.Ends.{out_side, into_side, ports_walked_lem}
 use Rattle.multiportgraph.specs.Reading.{is_split, as_read}
 use Rattle.multi_tables.specs.Forms.{subport#}
 use Rattle.multiportgraph.specs.LinkCutLaws.{end_is_here, end_is_same, fine_empty, empty_has_no_wire, empty_has_no_block, AddSays, LinkSubDone, LinkSubSays, CutDone, CutSays}
-use Rattle.multiportgraph.specs.SplitLaws.{HasEnd}
 use Rattle.theorems.specs.LinkLaw.{LinkDone, LinkSays}
 use Rattle.theorems.specs.RemoveLaws.{RemoveSays}
 use Rattle.multiportgraph.specs.SetLaws.{SetDone}

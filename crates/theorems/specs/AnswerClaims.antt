@@ -8,13 +8,13 @@ use Rattle.multiportgraph.specs.Refusals.{end_of}
 use Rattle.multiportgraph.specs.Calls.{subport_link, cut_port, cut_sub}
 use Rattle.port_tables.specs.Places.{Wire, wire_of_sides}
 use Rattle.multiportgraph.specs.Wires.{place_of}
-use Rattle.multiportgraph.specs.SplitLaws.{HasEnd}
 use Rattle.multiportgraph.specs.declared.multiportgraph.MultiPortGraph.{MultiPortGraph}
 use Rattle.multi_tables.specs.declared.answers.SubportIndex.{SubportIndex}
 use Rattle.multi_tables.specs.EndAnswers.{unplaced}
 use Rattle.theorems.specs.History.{State, next}
 use Rattle.theorems.specs.Claims.{Link, by_ports, by_ports_clean, by_subports, linking}
 use Rattle.multi_tables.specs.declared.answers.Refusal.{Refusal}
+use Rattle.multiportgraph.specs.WellFormed.{HasEnd}
 
 -- the wire between two subports of a graph, the outgoing one first: the side of the first one's port tells which that is
 abbrev pub wire_between : MultiPortGraph → SubportIndex → SubportIndex → Wire

@@ -15,7 +15,6 @@ use Rattle.std.specs.List.{filter}
 use Rattle.port_tables.specs.Entries.{ports_on, port#, ports_from}
 use Rattle.portgraph.specs.Lookups.{contains_node}
 use Rattle.portgraph.specs.GoodSlots.{zero_is_not_one}
-use Rattle.portgraph.specs.WalkLaws.{whole}
 use Rattle.port_tables.specs.declared.index.NodeIndex.{NodeIndex}
 use Rattle.port_tables.specs.declared.direction.Direction.{Direction}
 use Rattle.port_tables.specs.declared.direction.Direction.TheVariants.{Incoming, Outgoing}
@@ -40,6 +39,7 @@ use Rattle.multiportgraph.specs.declared.iter.NodeConnections.{NodeConnections}
 use Rattle.multi_tables.specs.declared.answers.Refusal.TheVariants.{UnknownNode, HiddenNode}
 use Rattle.theorems.specs.WalkStepLaws.{seen_stays, subport_offset, link_offset, subports_of_port_rise, port_links_rise}
 use Rattle.port_tables.specs.declared.index.PortIndex.{PortIndex}
+use Rattle.portgraph.specs.Walks.{whole}
 
 -- The steps, in one form.
 

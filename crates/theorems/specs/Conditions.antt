@@ -4,10 +4,9 @@ use Rattle.std.specs.Prelude.{◌≡◌, Bool, true, false, ◌⊎◌, ℕ, ◌+
 use Rattle.port_tables.specs.Limits.{node_slots, port_slots, node_ports}
 use Rattle.port_tables.specs.Entries.{port#}
 use Rattle.portgraph.specs.Model as model
-use Rattle.portgraph.specs.Model.{Model, nowhere, to, gone, slot_of, count_of}
+use Rattle.portgraph.specs.Model.{Model, nowhere, to, gone, slot_of, count_of, IsPort, Dead}
 use Rattle.portgraph.specs.Meaning.{growth}
 use Rattle.port_tables.specs.ResizeLinks.{round_up}
-use Rattle.portgraph.specs.LinkHolds.{IsPort, Dead}
 use Rattle.port_tables.specs.declared.direction.Direction.TheVariants.{Incoming}
 use Rattle.port_tables.specs.declared.index.NodeIndex.{NodeIndex}
 use Rattle.port_tables.specs.declared.index.PortIndex.{PortIndex}
@@ -228,3 +227,22 @@ leaves_prepared (book.link_sub_call p o q s) r = false
 leaves_prepared (book.cut_call p) r = false
 leaves_prepared (book.cut_sub_call p o) r = false
 leaves_prepared (book.tidy_call p) r = false
+
+-- at a node the conditions are those of removing a block: 4 if it is not live, 5 if it is hidden
+abbrev pub NodeRefused : MultiPortGraph → Model → ℕ → Refusal → Type 0
+NodeRefused m M n r = RemoveRefused m M n r
+
+-- at a port those of cutting it: 7 if it is not live, 8 if it is a hidden node's
+abbrev pub PortRefused : MultiPortGraph → Model → ℕ → Refusal → Type 0
+PortRefused m M p r = CutRefused m M p r
+
+-- from one node to another
+pub data BetweenRefused (m : MultiPortGraph) (M : Model) (n k : ℕ) : Refusal → Type 0 where
+  between_unknown : (M.node n ≡ gone) ⊎ (M.node k ≡ gone) → BetweenRefused m M n k UnknownNode
+  between_hidden : (M.node n ≡ gone → ⊥) → (M.node k ≡ gone → ⊥) → (is_hidden m n ≡ true) ⊎ (is_hidden m k ≡ true) → BetweenRefused m M n k HiddenNode
+
+-- a number is no node, a hidden node, or a block
+pub data NodeIs (m : MultiPortGraph) (M : Model) (n : ℕ) : Type 0 where
+  no_node : M.node n ≡ gone → NodeIs m M n
+  hidden_node : is_hidden m n ≡ true → NodeIs m M n
+  block_node : (k : NodeMeta) → BlockIs m M n k → NodeIs m M n

@@ -12,9 +12,9 @@ use Rattle.std.proofs.Math.ListN.{length}
 use Rattle.port_tables.specs.Lists.{on_first, on_last, Member, Rising}
 use Rattle.std.specs.List.{filter}
 use Rattle.portgraph.specs.GoodSlots.{zero_is_not_one}
-use Rattle.portgraph.specs.WalkLaws.{Walked, whole, unfinished, more}
 use Rattle.port_tables.specs.Listing.{Apart, member_left, member_right, member_filter, filter_all, rising_filter}
 use Rattle.std.proofs.lemmas.List.Elements.{filter-append}
+use Rattle.portgraph.specs.Walks.{Walked, whole, unfinished, more}
 
 -- What a step answers: an item with the cursor moved, or the end.
 pub data Stepped (B C : Type 0) : Type 0 where

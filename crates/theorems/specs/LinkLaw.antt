@@ -16,10 +16,10 @@ use Rattle.port_tables.specs.declared.direction.Direction.{Direction}
 use Rattle.port_tables.specs.declared.direction.Direction.TheVariants.{Incoming, Outgoing}
 use Rattle.multiportgraph.specs.Reading.{seen}
 use Rattle.multi_tables.specs.Forms.{Port, dead, hidden, visible, subport#}
-use Rattle.multiportgraph.specs.WellFormed.{Fine, Seen, lift, WireIn, SameBlocks, Wiring, none, SameWires}
+use Rattle.multiportgraph.specs.WellFormed.{Fine, Seen, lift, WireIn, SameBlocks, Wiring, none, SameWires, HasEnd}
 use Rattle.multiportgraph.specs.Ends.{BlockPort, block_seen}
 use Rattle.multiportgraph.specs.LinkCutLaws.{Joined, join_ends}
-use Rattle.multiportgraph.specs.SplitLaws.{HasEnd, KeptEnd, PreparedEnd, PreparedSays}
+use Rattle.multiportgraph.specs.SplitLaws.{KeptEnd, PreparedEnd, PreparedSays}
 use Rattle.multiportgraph.specs.PrepareLaws.{prepare_says}
 use Rattle.multiportgraph.specs.declared.multiportgraph.MultiPortGraph.{MultiPortGraph}
 use Rattle.multi_tables.specs.declared.answers.SubportIndex.{SubportIndex}

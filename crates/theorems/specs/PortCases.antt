@@ -2,10 +2,9 @@
 use Rattle.std.specs.Prelude.{◌≡◌, refl, Bool, true, false, cond, ℕ, ◌≤◌, ◌<◌}
 use Rattle.std.proofs.Common.{sym, ◌∙◌, ap, subst, ⊎_elim, arith}
 use Rattle.portgraph.specs.Model as model
-use Rattle.portgraph.specs.Model.{Model, to, Valid, slot_of, count_of}
+use Rattle.portgraph.specs.Model.{Model, to, Valid, slot_of, count_of, Dead}
 use Rattle.portgraph.specs.GoodSlots.{zero_is_not_one}
 use Rattle.portgraph.specs.PlaceLaws.{slot_cases, dead_port}
-use Rattle.portgraph.specs.LinkHolds.{Dead}
 use Rattle.multiportgraph.specs.Reading.{is_hidden, is_split, seen, subports, end_at}
 use Rattle.multi_tables.specs.Forms.{dead, hidden, visible, End, inner, lacking}
 use Rattle.multiportgraph.specs.WellFormed.{Fine, lift, outer}

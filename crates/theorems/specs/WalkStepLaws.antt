@@ -12,7 +12,7 @@ use Rattle.port_tables.specs.Lists.{range, on_first, on_last, Member, Rising}
 use Rattle.std.specs.List.{filter}
 use Rattle.port_tables.specs.Entries.{node#, port#}
 use Rattle.portgraph.specs.GoodSlots.{zero_is_not_one}
-use Rattle.portgraph.specs.WalkLaws.{whole, one_less}
+use Rattle.portgraph.specs.WalkLaws.{one_less}
 use Rattle.port_tables.specs.declared.index.PortIndex.{PortIndex}
 use Rattle.port_tables.specs.declared.direction.Direction.{Direction}
 use Rattle.multiportgraph.specs.Reading.{is_split, seen, subports, end_at, link_of_end}
@@ -32,6 +32,7 @@ use Rattle.port_tables.specs.declared.index.NodeIndex.{NodeIndex}
 use Rattle.multi_tables.specs.declared.answers.Refusal.{Refusal}
 use Rattle.multi_tables.specs.declared.answers.PortPlace.{PortPlace}
 use Rattle.multiportgraph.specs.WalkRule.{blocks_rise}
+use Rattle.portgraph.specs.Walks.{whole}
 
 -- The steps, in one form.
 

@@ -15,7 +15,7 @@ use Rattle.theorems.specs.Book.{Call}
 use Rattle.theorems.proofs.CallLaws.{rel_run}
 use Rattle.theorems.specs.History.{run}
 use Rattle.theorems.specs.ListingClaims.{InBook}
-use Rattle.theorems.proofs.StartLaws.{NodeRefused, start_at_node_refused}
+use Rattle.theorems.proofs.StartLaws.{start_at_node_refused}
 use Rattle.theorems.proofs.PortListing.{blocks_list}
 use Rattle.theorems.proofs.Theorems.{wire_rule, blocks_are_booked}
 use Rattle.timing.specs.Longest.{time_in, feeds_in, feeders, comes, longest_of}
@@ -28,6 +28,7 @@ use Rattle.timing.specs.FeedLaws as graphs
 use Rattle.timing.specs.RunOrderLaws as orders
 use Rattle.timing.specs.TimingLaws as laws
 use Rattle.timing.specs.declared.answers.LongestError.TheVariants.{Refused, BadTimes, Cycle}
+use Rattle.theorems.specs.Conditions.{NodeRefused}
 
 -- Walks along the book's wires are walks along the graph's.
 module _ (release : Release) (calls : List Call) where

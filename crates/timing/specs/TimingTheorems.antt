@@ -10,13 +10,13 @@ use Rattle.port_tables.specs.declared.release.Release.{Release}
 use Rattle.theorems.specs.Book.{Call}
 use Rattle.theorems.specs.History.{run}
 use Rattle.theorems.specs.ListingClaims.{InBook}
-use Rattle.theorems.proofs.StartLaws.{NodeRefused}
 use Rattle.timing.specs.Longest.{time_in, longest_of}
 use Rattle.timing.specs.RunOrder.{run_order}
 use Rattle.timing.specs.Path.{path_of}
 use Rattle.timing.specs.TimingClaims.{Feeds, WalkTo, CycleReaches, sum_along, RightOrder}
 use Rattle.timing.specs.TimingHistory as proofs
 use Rattle.timing.specs.declared.answers.LongestError.TheVariants.{Refused, BadTimes, Cycle}
+use Rattle.theorems.specs.Conditions.{NodeRefused}
 
 -- The largest sum.
 

@@ -6,7 +6,7 @@ use Rattle.port_tables.specs.Limits.{node_slots}
 use Rattle.multiportgraph.specs.WellFormed.{MultiWf}
 use Rattle.theorems.proofs.CallLaws.{empty_kept}
 use Rattle.files.specs.Layout.{unbytes}
-use Rattle.files.specs.BuildSteps.{err_says, blocks_fit_table, built_blocks, stopped_wires, built_wires}
+use Rattle.files.specs.BuildSteps.{err_says, blocks_fit_table, stopped_wires, built_wires}
 use Rattle.files.proofs.load.build_over.Goals as goal
 use Rattle.files.proofs.load.build_over.Goals.{In_ok-add_blocks}
 
@@ -19,9 +19,6 @@ few c =
 
 pub add_blocks-requires : goal.add_blocks-requires
 add_blocks-requires c = subst MultiWf (sym c.requires) (empty_kept _)
-
-pub returns-in_err-add_blocks : goal.returns-in_err-add_blocks
-returns-in_err-add_blocks c = err_says _ _ _ c.from_residual.ensures.1 (built_blocks c.args.release (unbytes c.args.file.bytes.now) c.requires c.in_err-add_blocks.ensures)
 
 pub fill_firsts-requires : goal.fill_firsts-requires
 fill_firsts-requires c = few (goal.at.fill_firsts-requires c).In_ok-add_blocks

@@ -1,11 +1,8 @@
 -- `files::merge::merge` meets its contract: sums and layout of the first file and of the second, then the loads.
 use mathlib.Core.Path.{subst}
 use Rattle.files.specs.LoadForms.{Laid}
-use Rattle.files.specs.MergeSteps.{first_unlaid, second_unlaid}
+use Rattle.files.specs.MergeSteps.{second_unlaid}
 use Rattle.files.proofs.merge.merge.Goals as goal
-
-pub returns-in_err-laid : goal.returns-in_err-laid
-returns-in_err-laid c = first_unlaid c.args.first.now c.args.second.now c.args.buffer.now c.in_err-laid.ensures c.from_residual.ensures.1
 
 pub returns-in_err-laid-2 : goal.returns-in_err-laid-2
 returns-in_err-laid-2 c =

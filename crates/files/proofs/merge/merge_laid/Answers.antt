@@ -1,6 +1,6 @@
 -- `files::merge::merge_laid` meets its contract: what the three loads refuse, or what writing answers.
 use Rattle.files.specs.MergeForms.{BothLaid}
-use Rattle.files.specs.MergeSteps.{both_few, first_unloaded, second_unloaded, result_unloaded, result_written}
+use Rattle.files.specs.MergeSteps.{first_unloaded, second_unloaded, result_unloaded, result_written}
 use Rattle.files.specs.declared.file.File.{File}
 use Rattle.files.proofs.merge.merge_laid.Goals as goal
 
@@ -15,9 +15,6 @@ pub returns-in_err-build_answer-2 : goal.returns-in_err-build_answer-2
 returns-in_err-build_answer-2 c =
     second_unloaded c.args.first.bytes.now c.args.second.bytes.now c.args.buffer.now (both c.args.first c.args.second) c.in_ok-build_answer.ensures c.in_err-build_answer-2.ensures
     c.from_residual-in_err-build_answer-2.ensures.1
-
-pub invariant_of-both : goal.invariant_of-both
-invariant_of-both c = record { few = both_few (both c.args.first c.args.second) c.in_ok-build_answer.ensures c.in_ok-build_answer-2.ensures }
 
 pub returns-in_err-answer : goal.returns-in_err-answer
 returns-in_err-answer c =

@@ -1,18 +1,13 @@
 -- `files::merge::read_wires` meets its contract. Invariant: the numbers so far are those of the first wires.
 use native.Mathlib.Omega.{arith}
-use mathlib.Core.Path.{refl, ap, ◌∙◌}
+use mathlib.Core.Path.{ap, ◌∙◌}
 use lib.ListN.{length-set}
-use Rattle.port_tables.specs.Lists.{range}
 use Rattle.files.specs.Layout.{Record, units_for, wire_of, wire_record}
 use Rattle.files.specs.Forms.{number_of}
 use Rattle.files.specs.Merging.{raised}
 use Rattle.files.specs.MergeForms.{wire_read}
 use Rattle.files.specs.MergeSteps.{number_stored}
 use Rattle.files.proofs.merge.read_wires.Goals as goal
-
-pub loop-i-init : goal.loop-i-init
-unfolding range
-loop-i-init c = (c.requires.1, refl)
 
 pub loop-i-preserved : goal.loop-i-preserved
 loop-i-preserved c =

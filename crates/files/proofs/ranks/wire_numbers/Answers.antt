@@ -1,18 +1,11 @@
 -- `files::ranks::wire_numbers` meets its contract. Invariant: the turns that are left amount to all.
-use native.Mathlib.Omega.{arith}
-use mathlib.Core.Path.{ap, ◌∙◌, sym, subst}
+use mathlib.Core.Path.{ap, ◌∙◌}
 use lib.ListN.{set}
 use Rattle.files.specs.View.{RankWire}
-use Rattle.files.specs.Layout.{wire_record, FieldsFit}
+use Rattle.files.specs.Layout.{wire_record}
 use Rattle.files.specs.Forms.{number_of, rank_read}
-use Rattle.files.specs.TurnSteps.{part_below, turning, wire_part}
+use Rattle.files.specs.TurnSteps.{turning, wire_part}
 use Rattle.files.proofs.ranks.wire_numbers.Goals as goal
-
-pub wire_number-requires : goal.wire_number-requires
-wire_number-requires c =
-    let w = c.loop-i.invariant in
-    let x = c.in-Some.ensures.steps in
-    (omega (arith, w.sized, x.0.1.1), subst (λ (v : RankWire). FieldsFit (wire_record v)) (sym (wire_part w _ c.next.new.self x (rank_read c.args.ranks.now))) (c.requires.1 c.in-Some.i (part_below w _ c.next.new.self x)))
 
 pub loop-i-preserved : goal.loop-i-preserved
 loop-i-preserved c =

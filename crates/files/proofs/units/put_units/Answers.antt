@@ -1,13 +1,13 @@
 -- `files::units::put_units` meets its contract. Invariant: laying the units that are left amounts to laying all.
 use native.Mathlib.Omega.{arith}
 use mathlib.Core.Path.{◌≡◌, ap, ◌∙◌}
-use Prim.Native.Nat.{ℕ, ◌≤◌, ◌+◌, ◌*◌}
+use Prim.Native.Nat.{ℕ, ◌+◌, ◌*◌}
 use lib.ListN.{length}
 use Rattle.std.specs.Prelude.{min}
-use Rattle.std.specs.Iterator.Adapters.{enumerate_source, enumerate_count}
+use Rattle.std.specs.Iterator.Adapters.{enumerate_source}
 use Rattle.std.specs.Slice.Iter.{chunks_rest}
 use Rattle.files.specs.Layout.{unit_records}
-use Rattle.files.specs.UnitSteps.{laying_ends, unit_room, unit_turn}
+use Rattle.files.specs.UnitSteps.{unit_turn}
 use Rattle.files.proofs.units.put_units.Goals as goal
 use Rattle.files.proofs.units.put_units.Goals.{In-Some}
 
@@ -17,24 +17,8 @@ part_long c =
     let k = c.in-Some.ensures.steps in
     k.0.1.1 ∙ ap (λ (n : ℕ). min n (length (chunks_rest (enumerate_source c.loop-i.i-iterator)))) c.loop-i.invariant.0
 
--- there is room for its unit
-fits : (c : In-Some) → c.args.at + 512 * enumerate_count c.loop-i.i-iterator + 512 ≤ length c.loop-i.bytes
-fits c = let k = c.in-Some.ensures.steps in unit_room c.args.kind c.loop-i.invariant.1 _ _ k.0.1.2 k.0.1.0 (part_long c) c.requires
-
-pub put_unit-requires : goal.put_unit-requires
-put_unit-requires c =
-    let s = (goal.at.put_unit-requires c).In-Some in
-    let f = fits s in
-    let p = part_long s in
-    (omega (arith, f, c.in-Some.ensures.steps.1), omega (arith, p))
-
 pub loop-i-preserved : goal.loop-i-preserved
 loop-i-preserved c =
     let k = c.in-Some.ensures.steps in
     let i = c.loop-i.invariant in
     (k.0.0 ∙ i.0, unit_turn c.args.kind i.1 _ _ k.0.1.2 k.0.1.0 (part_long (goal.at.loop-i-preserved c).In-Some) (ap (λ (n : ℕ). c.args.at + 512 * n) k.1) (omega (arith, k.2)) c.put_unit.ensures)
-
-pub returns : goal.returns
-returns c =
-    let k = c.in-None.ensures.steps in
-    (ap (λ (n : ℕ). c.args.at + 512 * n) c.units_for.ensures, laying_ends c.args.kind c.loop-i.invariant.1 k.0.1.0)

@@ -7,7 +7,7 @@ use borrow.Author.Tests.{tests}
 use Rattle.std.proofs.Common.{rules}
 use Rattle.std.proofs.lemmas.Iterator.{cases_from_all, YieldsList-from_range}
 use Rattle.std.proofs.lemmas.List.FromFn.{length-range_with_len, get_or-range_with_len}
-use Rattle.lines.specs.TextSteps.{same_all, same_unlong}
+use Rattle.lines.specs.TextSteps.{same_all}
 use Rattle.lines.proofs.text.same_word.Goals as goal
 
 pub returns-then-len : goal.returns-then-len
@@ -16,6 +16,3 @@ returns-then-len c =
     (cases_from_all _ _ c.all.result (λ k. get_or c.args.text.now (c.args.word.from + k) 0 ≡ get_or c.args.other.now (c.args.name.from + k) 0) (λ k. get_or c.args.text.now (c.args.word.from + k) 0 ≡ get_or c.args.other.now (c.args.name.from + k) 0 → ⊥) c.all.ensures.ran
     (YieldsList-from_range 0 c.len-then-len.result c.len-then-len.result refl (omega arith))
     (λ x q k. search (rules, tests)) (λ x q k. search (rules, tests)))
-
-pub returns-else-len : goal.returns-else-len
-returns-else-len c = rw (c.len.ensures, c.len-2.ensures) (same_unlong c.args.text.now c.args.other.now _ _ _ _ (omega arith))

@@ -5,7 +5,7 @@ use Prim.Native.Nat.{ℕ, ◌*◌}
 use mathlib.Core.Path.{ap, ◌∙◌}
 use Rattle.std.specs.Iterator.Adapters.{enumerate_source, enumerate_count}
 use Rattle.std.specs.Slice.Iter.{chunks_exact_rest, chunks_exact_size}
-use Rattle.records.specs.RunSteps.{run_starts, run_turns, run_ends}
+use Rattle.records.specs.RunSteps.{run_starts, run_turns}
 use Rattle.records.proofs.run.run_list.Goals as goal
 
 pub loop-k-init : goal.loop-k-init
@@ -21,9 +21,3 @@ loop-k-preserved c =
     let k = c.in-Some.ensures.steps in
     let i = c.loop-k.invariant in
     (k.0.0 ∙ i.0, run_turns i.1 _ _ k.0.1.0 (k.0.1.1 ∙ i.0) (ap (λ (n : ℕ). 20 * n) k.1) (omega (arith, k.2)) c.request_in.ensures c.ask_lent.ensures c.put_answer.ensures)
-
-pub returns : goal.returns
-returns c =
-    let k = c.in-None.ensures.steps in
-    let i = c.loop-k.invariant in
-    run_ends i.1 (omega (arith, k.0.1.0, i.0))

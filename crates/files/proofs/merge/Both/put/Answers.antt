@@ -13,14 +13,6 @@ put_blocks-at-requires c =
     let k = s.few.two in
     (omega arith, omega arith)
 
-pub put_wires-requires : goal.put_wires-requires
-unfolding file_length
-put_wires-requires c =
-    let s = c.args.self in
-    let e = result_length (record { one = s.first.laid; two = s.second.laid }) in
-    let w = s.few.wires_few in
-    (omega arith, omega (arith, c.put_blocks-at.ensures.0))
-
 pub returns : goal.returns
 returns c =
     let s = c.args.self in

@@ -1,12 +1,8 @@
 -- `Sketch::subport_link` meets its contract: what is refused, and the far end.
-use Rattle.sketches.specs.CutSteps.{answers_as, far_fits, end_answered, end_refused, end_asked}
+use Rattle.sketches.specs.CutSteps.{answers_as, far_fits, end_answered, end_asked}
 use Rattle.std.proofs.Common.{rules}
-use Rattle.std.proofs.lemmas.Result.{err_from_is_err_and}
 use Rattle.sketches.specs.Held.{plan_of}
 use Rattle.sketches.proofs.totals.Sketch.subport_link.Goals as goal
-
-pub returns-in_err-judge_end : goal.returns-in_err-judge_end
-returns-in_err-judge_end c = let p = err_from_is_err_and c.from_residual.result c.from_residual.ensures.1 in rw (p.1, p.2) (answers_as (end_refused (plan_of c.args.self.now) c.args.end.port c.args.end.offset c.judge_end.ensures c.in_err-judge_end.was))
 
 pub map-requires : goal.map-requires
 map-requires c = λ x e p q. far_fits _ _ _ _ c.end_test.ensures.wf _ c.far_from-far.result c.far_from-far.ensures x e

@@ -345,6 +345,12 @@ def types_of(use):
     return "use %s{%s};" % (use.group(1), ", ".join(types)) if types else ""
 
 
+def ghosts_of(use, text):
+    """The words of a list of ghost imports that a text has: those of ghost fields."""
+    words = [w for w in use.group(2).split(", ") if re.search(r"(?<!\w)%s(?!\w)" % re.escape(w.strip("◌")), text)]
+    return "ghost use %s.{%s};" % (use.group(1), ", ".join(words)) if words else ""
+
+
 def strip(folder):
     """The crate without functions and proofs of them."""
     shutil.rmtree(os.path.join(folder, "must-fail"), ignore_errors=True)
@@ -354,8 +360,10 @@ def strip(folder):
     for name in os.listdir(os.path.join(folder, "src")):
         path = os.path.join(folder, "src", name)
         text = re.sub(r'^(?:pub |pub\(crate\) )?(?:unsafe )?(?:extern "C" )?(?:fn |impl\b)[\s\S]*?^}$', "", read(path), flags=re.M)
-        text = re.sub(r"^(?:ghost use [^;]*;|#\[(?!derive).*|use (?:.*::)?[a-z]\w*(?: as \w+)?;)$", "", text, flags=re.M)
-        write(path, re.sub(r"^use (.*)\{([^}]*)\};$", types_of, text, flags=re.M))
+        text = re.sub(r"^(?:#\[(?!derive).*|use (?:.*::)?[a-z]\w*(?: as \w+)?;)$", "", text, flags=re.M)
+        text = re.sub(r"^use (.*)\{([^}]*)\};$", types_of, text, flags=re.M)
+        left = re.sub(r"^ghost use [^;]*;$", "", text, flags=re.M)
+        write(path, re.sub(r"^ghost use (.*)\.\{([^}]*)\};$", lambda use: ghosts_of(use, left), text, flags=re.M))
 
 
 def prune(top):

@@ -2,7 +2,7 @@
 """Names the laws that state the same thing, but for the names of what they speak of and the order of what they ask.
 
   same_laws.py             of the files of crates/ as git has them
-  same_laws.py --library   and those whose statement a law of the toolchain's library has (RATTLE_LIBS, else /opt/rattle/rattle)
+  same_laws.py --library   and those whose statement a law of the toolchain's library has (that of the `rt` at hand)
 
 A law is a name with a type that ends in a statement (an equation, an order, a membership, a refutation). Variables are renamed in the
 order in which the conclusion names them, implicit ones count as named ones, both sides of an equation may change places. Fronts, files named
@@ -139,7 +139,8 @@ def ours():
 
 
 def library():
-    root = os.environ.get("RATTLE_LIBS", "/opt/rattle/rattle")
+    page = subprocess.run(["rt", "doc"], stdout=subprocess.PIPE, text=True, check=True).stdout.strip()
+    root = os.path.join(os.path.dirname(page), "rattle")
     for folder, _, inside in os.walk(root):
         for one in inside:
             if one.endswith(".antt") and "/Tests" not in folder and "/Examples" not in folder:

@@ -17,7 +17,7 @@ import sys
 TOP = os.path.join(os.path.dirname(os.path.abspath(__file__)), "..")
 SIGN = re.compile(r"^( *)(?:abbrev )?(?:pub )?(?:abbrev )?([^\s:(){}]+)(?: \{[^:{}]*\})? : (.*)$")
 WORD = re.compile(r"[^\s(){},.;]+|[(){},.;]")
-STATEMENT = re.compile(r"≡|≤|<|⊥|Member|Once|⊎|×|Σ")
+STATEMENT = re.compile(r"≡|≤|<|⊥|Member|Once|Rising|WireIn|⊎|×|Σ")
 OPEN, CLOSE = "({⟨[", ")}⟩]"
 
 
@@ -32,7 +32,7 @@ def joined(text):
             out[-1] += " " + line.strip()
         else:
             out.append(line)
-    return [re.sub(r"Type (ℓ\S*|\(.*?\))(?=[\s)}])", "Type 0", line) for line in out]
+    return [re.sub(r"Type (ℓ[^\s(){}]*|\(.*?\))(?=[\s)}])", "Type 0", line) for line in out]
 
 
 def laws_of(path):

@@ -4,26 +4,21 @@ use Rattle.std.proofs.Math.Path.{refl, sym, ap, subst}
 use Rattle.std.proofs.Common.{◌∙◌, arith, leb-true, le-leb, ltb-true, ne_eqb}
 use Rattle.std.proofs.Math.Bool.{cond}
 use Rattle.std.proofs.Math.Logic.{inl, inr, ⊎_elim}
-use Rattle.port_tables.specs.Limits.{node_slots, port_slots, node_ports, present}
+use Rattle.port_tables.specs.Limits.{node_slots, port_slots, node_ports}
 use Rattle.port_tables.specs.Lists.{Member}
 use Rattle.port_tables.specs.Entries.{node#, port#, meta_of, new_count}
 use Rattle.portgraph.specs.Meaning.{add_model, next_slot, next_block, growth}
 use Rattle.portgraph.specs.Model as model
 use Rattle.portgraph.specs.Model.{Model, Slots, live, slot_of, count_of, Valid}
-use Rattle.portgraph.specs.Calls.{add_node, place_node}
-use Rattle.portgraph.specs.Sums.{upd_other}
-use Rattle.portgraph.specs.GoodSlots.{gone_not_live, slot_in_block, joined_is_valid}
-use Rattle.portgraph.specs.GoodLaws.{good_add, next_slot_gone}
-use Rattle.portgraph.specs.SlotHolds.{slot_room, block_room, add_where, add_law, place_holds}
+use Rattle.portgraph.specs.Calls.{place_node}
+use Rattle.portgraph.specs.GoodLaws.{next_slot_gone}
+use Rattle.portgraph.specs.SlotHolds.{slot_room, block_room}
 use Rattle.port_tables.specs.declared.direction.Direction.{Direction}
 use Rattle.port_tables.specs.declared.node_entry.NodeMeta.{NodeMeta}
-use Rattle.portgraph.specs.declared.alloc.NodeAdded as lower_added
-use Rattle.multiportgraph.specs.WellFormed.{copy_place, Fine, BlockIs, Seen}
-use Rattle.multiportgraph.specs.Ends.{split_has_copy}
-use Rattle.multiportgraph.specs.HiddenStays.{plain_frame, frame_fine, hidden_below, split_below, true_not_false, same_slot}
-use Rattle.multiportgraph.specs.LinkCutLaws.{AddDone, AddSays, add_block_law, at_spot_is}
-use Rattle.multiportgraph.specs.CaseLaws.{add_cases}
-use Rattle.multiportgraph.specs.Calls.{add_block, added_as}
+use Rattle.multiportgraph.specs.WellFormed.{Fine, BlockIs, Seen}
+use Rattle.multiportgraph.specs.HiddenStays.{frame_fine, hidden_below, split_below, true_not_false, same_slot}
+use Rattle.multiportgraph.specs.LinkCutLaws.{AddDone, AddSays, add_block_law, at_spot_is, live_stays, add_frame}
+use Rattle.multiportgraph.specs.Calls.{add_block}
 use Rattle.multiportgraph.specs.Graph.{with_graph}
 use Rattle.port_tables.specs.Places.{Place, spot}
 use Rattle.multiportgraph.specs.Reading.{is_hidden, is_split}
@@ -43,13 +38,14 @@ use Rattle.sketches.specs.declared.sketch.Reason.TheVariants as reason
 use Rattle.agreement.specs.Meaning.{Naming, Both, named_add, add_plan, means_add}
 use Rattle.agreement.specs.Agreement.{AddAlike, HasRoom}
 use Rattle.agreement.specs.Alike.{Alike, subports_at, name_of}
-use Rattle.agreement.specs.Square.{Square, pair}
+use Rattle.agreement.specs.Square.{Square, pair, squared, as_both}
 use Rattle.agreement.specs.Names.{naming, renamed, renamed_same}
 use Rattle.agreement.specs.Standing.{block_had, wires_named}
 use Rattle.agreement.specs.PlanLaws.{among_none}
-use Rattle.agreement.specs.KeptSplits.{split_kept, same_subports, any_model}
+use Rattle.agreement.specs.KeptSplits.{split_kept, same_subports, any_model, unlinked_whole, nodes_by_table}
 use Rattle.sketches.specs.declared.sketch.Reason.{Reason}
 use Rattle.std.proofs.lemmas.Bool.{false_from_ne_true}
+use Rattle.theorems.proofs.AddCall.{add_is}
 
 -- The graph after an add that has room.
 
@@ -58,35 +54,24 @@ module _ {m : MultiPortGraph} {M : Model} (f : Fine m M) (i o : ℕ) (small : i 
   abbrev grown : MultiPortGraph
   grown = with_graph m (place_node m.graph (next_slot M) (next_block M (i + o)) i o)
 
-  live_stays : (n : ℕ) (k : NodeMeta) → M.node n ≡ live k → (add_model M i o).node n ≡ M.node n
-  live_stays n k e = upd_other M.node (next_slot M) _ n (λ q. gone_not_live (next_slot_gone f.good) (ap M.node (sym q) ∙ e))
-
   grown_fine : Fine grown (add_model M i o)
-  grown_fine =
-      frame_fine f
-      (plain_frame f (good_add f.good i o small node_room port_room) (place_holds f.good f.holds i o small node_room port_room)
-      (λ c h. live_stays c (f.copy c h).meta (f.copy c h).here)
-      (λ c x h e. let r = slot_in_block f.good x (joined_is_valid f.good (copy_place m c) x e) in live_stays x.node r.0 r.1)
-      (λ c h. refl))
+  grown_fine = frame_fine f (add_frame f i o small node_room port_room)
 
   -- no port of the new block is split
   new_whole : (y : model.InnerPlace) → Seen grown (add_model M i o) y → y.node ≡ next_slot M → subports_at grown (add_model M i o) y ≡ 0
   new_whole y s e =
-      rw (false_from_ne_true (is_split grown (slot_of (add_model M i o).node y))
-      (λ t.
-      let k = split_has_copy grown_fine y s t in
-      let v : Valid M.node y = f.good.join_valid y _ k.back in
+      unlinked_whole grown_fine y s (λ z j.
+      let v : Valid M.node y = f.good.join_valid y z j in
       let w : y.pos < 0 = subst (λ (c : Slots). y.pos < count_of c y.side) (ap M.node e ∙ next_slot_gone f.good) v in
-      omega arith))
-      refl
+      omega arith)
 
   -- others are as split as they were
   old_splits : (y : model.InnerPlace) → Seen m M y → SameSplit m M grown (add_model M i o) y
   old_splits y s =
       let k = seen_live f y s in
-      let n : slot_of (add_model M i o).node y ≡ slot_of M.node y = same_slot M (add_model M i o) y (live_stays y.node k.0 k.1.1) in
+      let n : slot_of (add_model M i o).node y ≡ slot_of M.node y = same_slot M (add_model M i o) y (live_stays f.good i o y.node k.0 k.1.1) in
       split_kept f grown_fine y s
-      (λ h. (hidden_below m _ h.copy ∙ h.is_copy, live_stays h.copy (f.copy h.copy h.is_copy).meta (f.copy h.copy h.is_copy).here, h.back))
+      (λ h. (hidden_below m _ h.copy ∙ h.is_copy, live_stays f.good i o h.copy (f.copy h.copy h.is_copy).meta (f.copy h.copy h.is_copy).here, h.back))
       (λ e. split_below m _ _ ∙ (ap (is_split m) n ∙ e))
 
 -- The plan.
@@ -167,7 +152,7 @@ module _ {b : Both} {M : Model} (a : Alike b M) where
       names = naming (next_slot M) b.plan.adds ∷ b.names
 
       same_places : (y : model.InnerPlace) → d.model.node y.node ≡ (add_model M i o).node y.node
-      same_places y = sym (d.fine.holds.nodes y.node) ∙ fine.holds.nodes y.node
+      same_places y = nodes_by_table fine.holds d.fine.holds refl y.node
 
       subports : (y : model.InnerPlace) → Seen graph d.model y → (n : Naming) → Member n names → n.node ≡ y.node →
           subports_among b.plan.splits (spot n.name y.side y.pos) ≡ subports_at graph d.model y
@@ -231,20 +216,6 @@ module _ {b : Both} {M : Model} (a : Alike b M) where
             wires = wires_still (next_slot M) d.new;
           }
 
-    -- what the engine does, by what it finds
-    abbrev done : Bool → Bool → Bool → NodeAdded
-    done x y z =
-        record {
-          graph = with_graph m (add_where m.graph M i o x y z).graph;
-          answer = added_as (add_where m.graph M i o x y z).answer;
-        }
-
-    add_is : (x y z : Bool) → leb (i + o) node_ports ≡ x → slot_room M ≡ y → block_room M (i + o) ≡ z → add_block m i o ≡ done x y z
-    add_is x y z p q r =
-        add_cases present m i o ∙ (
-        let e : add_node m.graph i o ≡ add_where m.graph M i o x y z = add_law a.rel.fine.good a.rel.fine.holds i o ∙ rw (p, q, r) in
-        ap (λ (v : lower_added.NodeAdded). record { graph = with_graph m v.graph; answer = added_as v.answer }) e)
-
     abbrev full : Bool
     full = leb most_adds b.plan.adds || (leb node_slots (length b.plan.blocks) || ltb port_slots (ports_in_all b.plan.blocks + (i + o)))
 
@@ -258,22 +229,19 @@ module _ {b : Both} {M : Model} (a : Alike b M) where
     unfolding reason_number
     add_left room = go (leb (i + o) node_ports) (slot_room M) (block_room M (i + o)) full refl refl refl refl
       where
-        both : {w : NodeAdded} {v : Sketched (Result ℕ Reason)} → add_block m i o ≡ w → sketch.add_block b.plan i o ≡ v → Left w v → Left (add_block m i o) (sketch.add_block b.plan i o)
-        both {w} {v} p q l = subst (λ (u : NodeAdded). Left u (sketch.add_block b.plan i o)) (sym p) (subst (Left w) (sym q) l)
-
         go : (x y z t : Bool) → leb (i + o) node_ports ≡ x → slot_room M ≡ y → block_room M (i + o) ≡ z → full ≡ t → Left (add_block m i o) (sketch.add_block b.plan i o)
-        go false y z t p q r s = both (add_is false y z p q r) (plan_is false t p s) ((_, refl), (M, a))
-        go true false z t p q r s = absurd (room.kit (ap (λ (v : NodeAdded). v.answer) (add_is true false z p q r)))
-        go true true false t p q r s = absurd (room.kit (ap (λ (v : NodeAdded). v.answer) (add_is true true false p q r)))
+        go false y z t p q r s = as_both Left _ (add_is a.rel.fine i o false y z p q r) (plan_is false t p s) ((_, refl), (M, a))
+        go true false z t p q r s = absurd (room.kit (ap (λ (v : NodeAdded). v.answer) (add_is a.rel.fine i o true false z p q r)))
+        go true true false t p q r s = absurd (room.kit (ap (λ (v : NodeAdded). v.answer) (add_is a.rel.fine i o true true false p q r)))
         go true true true true p q r s = absurd (room.sketched (ap (λ (v : Sketched (Result ℕ Reason)). v.answer) (plan_is true true p s)))
         go true true true false p q r s =
-            let e = add_is true true true p q r in
+            let e = add_is a.rel.fine i o true true true p q r in
             let small = leb-true (i + o) node_ports p in
             let node_room = leb-true _ node_slots q in
             let port_room = leb-true _ port_slots r in
             let d : AddDone m M (grown a.rel.fine i o small node_room port_room) (next_slot M) (next_block M (i + o)) i o =
             subst (λ (v : NodeAdded). AddSays m M i o v.graph v.answer) e (add_block_law a.rel.fine i o) in
-            both e (plan_is true false p s) (inl refl, (d.model, grown_alike small node_room port_room d))
+            as_both Left _ e (plan_is true false p s) (inl refl, (d.model, grown_alike small node_room port_room d))
 
     -- where the engine has room, the plan with the new block is alike, whatever the sketch says
     pub grown_if : i + o ≤ node_ports → ((add_block m i o).answer ≡ Err NoRoom → ⊥) → (c : Both) × (c.plan ≡ plan_grown) × ((N : Model) × Alike c N)
@@ -283,14 +251,14 @@ module _ {b : Both} {M : Model} (a : Alike b M) where
         few = le-leb (i + o) node_ports small
 
         go : (y z : Bool) → slot_room M ≡ y → block_room M (i + o) ≡ z → (c : Both) × (c.plan ≡ plan_grown) × ((N : Model) × Alike c N)
-        go false z q r = absurd (room (ap (λ (v : NodeAdded). v.answer) (add_is true false z few q r)))
-        go true false q r = absurd (room (ap (λ (v : NodeAdded). v.answer) (add_is true true false few q r)))
+        go false z q r = absurd (room (ap (λ (v : NodeAdded). v.answer) (add_is a.rel.fine i o true false z few q r)))
+        go true false q r = absurd (room (ap (λ (v : NodeAdded). v.answer) (add_is a.rel.fine i o true true false few q r)))
         go true true q r =
             let node_room = leb-true (M.node_len + growth 1 M.free_nodes) node_slots q in
             let port_room = leb-true (M.port_len + growth (i + o) (M.free_blocks (i + o))) port_slots r in
             let d : AddDone m M (grown a.rel.fine i o small node_room port_room) (next_slot M) (next_block M (i + o)) i o =
-            subst (λ (v : NodeAdded). AddSays m M i o v.graph v.answer) (add_is true true true few q r) (add_block_law a.rel.fine i o) in
+            subst (λ (v : NodeAdded). AddSays m M i o v.graph v.answer) (add_is a.rel.fine i o true true true few q r) (add_block_law a.rel.fine i o) in
             (_, refl, (d.model, grown_alike small node_room port_room d))
 
 pub add_square : {b : Both} {M : Model} (i o : ℕ) → Square b M (means_add i o)
-add_square {b} {M} i o a room = let l = add_left a i o room in record { answers = l.0; model = l.1.0; alike = l.1.1 }
+add_square {b} {M} i o a room = squared (add_left a i o room)

@@ -1,7 +1,7 @@
 -- Every history that is asked for: both agree, from the squares of all pairs of calls.
-use Rattle.std.specs.Prelude.{◌≡◌, refl, Bool, cond, List, [], ◌∷◌, ◌++◌, ◌<◌, ◌≤◌, length, Result, Ok, Err}
+use Rattle.std.specs.Prelude.{◌≡◌, refl, Bool, cond, List, [], ◌∷◌, ◌<◌, ◌≤◌, length, Result, Ok, Err}
 use Rattle.std.proofs.Math.Path.{sym, subst}
-use Rattle.std.proofs.Common.{◌∙◌, ap, arith}
+use Rattle.std.proofs.Common.{◌∙◌, arith}
 use Rattle.std.proofs.Math.Bool.{true, false}
 use Rattle.std.proofs.Math.Dec.{ltb}
 use borrow.Author.Tests.{lt-ltb, le-ltb, ltb-true, ltb-false}
@@ -11,11 +11,9 @@ use Rattle.multiportgraph.specs.Graph.{empty_graph}
 use Rattle.multiportgraph.specs.LinkCutLaws.{empty_has_no_block}
 use Rattle.port_tables.specs.declared.release.Release.{Release}
 use Rattle.theorems.specs.Book.{Call}
-use Rattle.theorems.specs.History.{State, next, run_from, run_from_under, run, run_under}
-use Rattle.theorems.specs.Runs.{run_append, run_next}
+use Rattle.theorems.specs.History.{run_from, run_from_under, run_under}
 use Rattle.theorems.proofs.WireRule.{rel_start}
 use Rattle.sheets.specs.Sheets.{too_many, answered}
-use Rattle.sheets.specs.SheetHistory as sheet
 use Rattle.sheets.specs.SheetHistory.{links_of}
 use Rattle.sheets.specs.Theorems.{sheet_is_links, too_long_counts_nothing}
 use Rattle.sheets.specs.declared.sheet.SheetEntry.{SheetEntry}
@@ -146,22 +144,9 @@ item_agrees : (b : Both) (M : Model) → Alike b M → (i : PairItem) (m : Meant
 item_agrees b M a (calls p) m = let s = square m.0 a m.1 in (s.answers, (s.model, s.alike))
 item_agrees b M a (sheets es ps) m = sheet_agrees b M a es ps m
 
--- the engine's state after an item is that of a longer history
-item_history : (release : Release) (b : Both) (l : List Call) → b.kit ≡ run release l → (i : PairItem) (m : MeantItem b i) → (k : List Call) × ((next_item b i).kit ≡ run release k)
-item_history release b l e (calls p) m = (l ++ (p.call ∷ []), ap (λ (s : State). next s p.call) e ∙ sym (run_next release l p.call))
-item_history release b l e (sheets es ps) m = go (ltb 64 (length es)) refl
-  where
-    go : (t : Bool) → ltb 64 (length es) ≡ t → (k : List Call) × (sheet.next_item b.kit (sheet.whole_sheet es) ≡ run release k)
-    go true q = (l, too_long_counts_nothing b.kit es (ltb-true 64 (length es) q) ∙ e)
-    go false q =
-        (l ++ links_of es, sheet_is_links b.kit es (ltb-false 64 (length es) q) ∙ (ap (λ (s : State). run_from s (links_of es)) e ∙ sym (run_append release l (links_of es))))
-
-agrees_from : (release : Release) (b : Both) (M : Model) → Alike b M → (l : List Call) → b.kit ≡ run release l → (items : List PairItem) (m : Meant b items) → Agreed b items m
-agrees_from release b M a l e [] m = looks_alike a release l e
-agrees_from release b M a l e (i ∷ items) m =
-    let r = item_agrees b M a i m.0 in
-    let h = item_history release b l e i m.0 in
-    (looks_alike a release l e, r.0, agrees_from release (next_item b i) r.1.0 r.1.1 h.0 h.1 items m.1)
+agrees_from : (b : Both) (M : Model) → Alike b M → (items : List PairItem) (m : Meant b items) → Agreed b items m
+agrees_from b M a [] m = looks_alike a
+agrees_from b M a (i ∷ items) m = let r = item_agrees b M a i m.0 in (looks_alike a, r.0, agrees_from (next_item b i) r.1.0 r.1.1 items m.1)
 
 -- both are alike after it
 alike_from : (b : Both) (M : Model) → Alike b M → (items : List PairItem) → Meant b items → (N : Model) × Alike (after b items) N
@@ -172,4 +157,4 @@ pub alike_history : (release : Release) (items : List PairItem) → Meant (start
 alike_history release items m = alike_from (start release) empty_model (start_alike release) items m
 
 pub sketch_agrees : (release : Release) (items : List PairItem) (m : Meant (start release) items) → Agreed (start release) items m
-sketch_agrees release items m = agrees_from release (start release) empty_model (start_alike release) [] refl items m
+sketch_agrees release items m = agrees_from (start release) empty_model (start_alike release) items m

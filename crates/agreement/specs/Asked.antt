@@ -1,21 +1,18 @@
 -- What an end is linked with: the far end of its wire is the first that the sketch finds, under the names; so both answer alike where an end is asked.
 use Rattle.std.specs.Prelude.{◌≡◌, Bool, cond, not, ◌||◌, List, [], ◌∷◌, ◌⊎◌, ℕ, ◌≤◌, ltb, Err, Option, Result}
 use Rattle.std.proofs.Math.Path.{refl, ap, subst}
-use Rattle.std.proofs.Common.{sym, ◌∙◌, inl, inr, ⊎_elim, arith, lt-ltb, ltb-true, ltb-false}
+use Rattle.std.proofs.Common.{sym, ◌∙◌, inl, inr, ⊎_elim, arith, ltb-true, ltb-false}
 use Rattle.std.proofs.Math.Bool.{true, false}
 use Rattle.port_tables.specs.Lists.{Member}
 use Rattle.portgraph.specs.Lookups.{port_link}
 use Rattle.portgraph.specs.Model as model
 use Rattle.portgraph.specs.Model.{Model, nowhere, to, slot_of}
 use Rattle.portgraph.specs.PlaceLaws.{port_link_to, port_link_none}
-use Rattle.port_tables.specs.declared.direction.Direction.{Direction}
-use Rattle.port_tables.specs.declared.direction.Direction.TheVariants.{Incoming, Outgoing}
 use Rattle.multiportgraph.specs.WellFormed.{Fine, Seen, lift, outer, IsEnd, WireIn}
-use Rattle.multiportgraph.specs.Ends.{EndOf, other_side, outer_seen, outer_apart, ends_join_ends, subport_of_lem, outer_of_block, outer_of_subport, unsplit_no_copy}
+use Rattle.multiportgraph.specs.Ends.{EndOf, outer_seen, outer_apart, ends_join_ends, subport_of_lem, outer_of_block, outer_of_subport, unsplit_no_copy, wire_at}
 use Rattle.multiportgraph.specs.HiddenStays.{true_not_false}
 use Rattle.multiportgraph.specs.LinkCutLaws.{end_is_here, end_is_same}
 use Rattle.multiportgraph.specs.CopyLaws.{port_at_is, port_at_here}
-use Rattle.multiportgraph.specs.CaseLaws.{subport_link_cases}
 use Rattle.multiportgraph.specs.Calls.{subport_link}
 use Rattle.port_tables.specs.Places.{Place, Wire, spot, at_spot, at_end, touches, any_touches}
 use Rattle.multiportgraph.specs.Reading.{port_place, is_hidden, is_split, end_at, subport_of, standing_of, far_subport}
@@ -24,10 +21,10 @@ use Rattle.multiportgraph.specs.Wires.{place_of}
 use Rattle.multiportgraph.specs.declared.multiportgraph.MultiPortGraph.{MultiPortGraph}
 use Rattle.multi_tables.specs.declared.answers.PortPlace.{PortPlace}
 use Rattle.theorems.specs.Book.{Book, read_by}
-use Rattle.theorems.specs.BookLaws.{any_touches_lem, none_touches, or_true}
+use Rattle.theorems.specs.BookLaws.{any_touches_lem, none_touches}
 use Rattle.theorems.specs.Conditions.{sub_offset, sub_dead, sub_lacks}
-use Rattle.theorems.proofs.CutSubCall.{subport_link_refuses}
-use Rattle.theorems.specs.PortCases.{seen_block_port, is_lacking, end_is_lem}
+use Rattle.theorems.proofs.CutSubCall.{subport_link_refuses, link_of_there}
+use Rattle.theorems.specs.PortCases.{is_lacking, end_is_lem}
 use Rattle.theorems.proofs.WireRule.{Rel}
 use Rattle.sketches.specs.Plan.{nothing, far, far_from, is_there, spot_named, offset_read, lacks_offset, port_at}
 use Rattle.sketches.specs.PlanCalls as sketch
@@ -44,8 +41,9 @@ use Rattle.port_tables.specs.declared.index.PortIndex.{PortIndex}
 use Rattle.portgraph.specs.declared.portgraph.NoSuchPort.{NoSuchPort}
 use Rattle.multi_tables.specs.declared.answers.Refusal.{Refusal}
 use Rattle.multi_tables.specs.declared.answers.SubportIndex.{SubportIndex}
-use Rattle.std.proofs.lemmas.Bool.{false_from_ne_true, or_right}
+use Rattle.std.proofs.lemmas.Bool.{false_from_ne_true, or_cases}
 use Rattle.portgraph.specs.Joins.{nowhere_not_to, to_same}
+use Rattle.theorems.specs.ListedLinks.{own_touches}
 
 -- The first far end that a list of wires has.
 
@@ -77,25 +75,7 @@ module _ {m : MultiPortGraph} {M : Model} {B : Book} (r : Rel m M B) (z : model.
     (here : f (outer m M z) ≡ true) (only : (v : model.InnerPlace) → IsEnd m M v → f (outer m M v) ≡ true → v ≡ z) where
   -- the wire of its link
   pub wire_there : (y : model.InnerPlace) → M.join z ≡ to y → any_touches f B.wires ≡ true
-  wire_there y j = go z.side refl
-    where
-      go : (d : Direction) → z.side ≡ d → any_touches f B.wires ≡ true
-      go Outgoing s =
-          any_touches_lem f (record { out = outer m M z; into = outer m M y }) B.wires
-          (r.wires.walks _ (record { x = z; y = y; joined = j; outgoing = s; end = ez; is = refl }))
-          (ap (λ (t : Bool). t || f (outer m M y)) here)
-      go Incoming s =
-          any_touches_lem f (record { out = outer m M y; into = outer m M z }) B.wires
-          (r.wires.walks _
-          (record {
-            x = y;
-            y = z;
-            joined = r.fine.good.join_back z y j;
-            outgoing = other_side Incoming y.side (λ c. r.fine.good.join_sides z y j (s ∙ c));
-            end = ends_join_ends r.fine z y ez j;
-            is = refl;
-          }))
-          (or_right (f (outer m M y)) _ here)
+  wire_there y j = any_touches_lem f _ B.wires (r.wires.walks _ (wire_at r.fine z y ez j)) (own_touches z.side f (outer m M z) (outer m M y) here)
 
   -- of each wire with that end the other one is the far end
   out_far : (w : Wire) → WireIn m M w → f w.out ≡ true → (y : model.InnerPlace) × (M.join z ≡ to y) × (w.into ≡ outer m M y)
@@ -125,7 +105,7 @@ module _ {m : MultiPortGraph} {M : Model} {B : Book} (r : Rel m M B) (z : model.
       (none_touches f B.wires
       (λ w i. false_from_ne_true (touches f w)
       (λ t. let h = r.wires.booked w i in
-      ⊎_elim (λ p. nowhere_not_to j (out_far w h p).1) (λ p. nowhere_not_to j (into_far w h p).1) (or_true (f w.out) (f w.into) t))))
+      ⊎_elim (λ p. nowhere_not_to j (out_far w h p).1) (λ p. nowhere_not_to j (into_far w h p).1) (or_cases (f w.out) (f w.into) t))))
 
 -- Such tests: an offset of a port as read, and an unsplit port whole.
 
@@ -241,8 +221,7 @@ module _ {b : Both} {M : Model} (a : Alike b M) where
               EndAlike b.names (subport_link b.kit.graph p o) (end_found (far_from (at_end (spot_named x) (offset_read b.plan x o)) b.plan.wires))
           ends lacking e = absurd (lacks_not a h o l (is_lacking a.rel.fine p (here# h) o (h.is_seen, h.slot) e))
           ends (inner q) e =
-              let g : subport_link b.kit.graph p o ≡ far_subport b.kit.graph (port_link b.kit.graph.graph q) = subport_link_cases b.kit.graph p o
-              ∙ rw (lt-ltb o 65535 (omega arith), seen_block_port a.rel.fine p (here# h) (h.is_seen, h.slot), e) refl in
+              let g : subport_link b.kit.graph p o ≡ far_subport b.kit.graph (port_link b.kit.graph.graph q) = link_of_there a.rel.fine p o (here# h) small (h.is_seen, h.slot) q e in
               subst (λ (v : Result (Option (SubportIndex × PortPlace)) Refusal). EndAlike b.names v (end_found (far_from (at_end (spot_named x) (offset_read b.plan x o)) b.plan.wires))) (sym g)
               (found_alike h o q (end_is_lem a.rel.fine p (here# h) o q (h.is_seen, h.slot) e))
 

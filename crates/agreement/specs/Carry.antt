@@ -5,13 +5,13 @@ use Rattle.port_tables.specs.Lists.{Member}
 use Rattle.portgraph.specs.Model as model
 use Rattle.portgraph.specs.Model.{Model, Slots, count_of, slot_of}
 use Rattle.portgraph.specs.GoodSlots.{same_place_lem}
-use Rattle.multiportgraph.specs.WellFormed.{Fine, Seen, SameBlocks, lift}
-use Rattle.multiportgraph.specs.HiddenStays.{true_not_false, same_slot}
+use Rattle.multiportgraph.specs.WellFormed.{Seen, SameBlocks, lift}
+use Rattle.multiportgraph.specs.HiddenStays.{true_not_false}
 use Rattle.multiportgraph.specs.LinkCutLaws.{at_spot_here, at_spot_is}
 use Rattle.port_tables.specs.Places.{Place, spot, at_spot}
 use Rattle.multiportgraph.specs.declared.multiportgraph.MultiPortGraph.{MultiPortGraph}
 use Rattle.theorems.specs.History.{State}
-use Rattle.theorems.proofs.WireRule.{Rel, seen_live}
+use Rattle.theorems.proofs.WireRule.{Rel}
 use Rattle.sketches.specs.Plan.{Plan, PlanBlock, port_at, ports_on_side, is_there, subports_among, set_subports}
 use Rattle.sketches.specs.declared.sketch.SketchPort.{SketchPort}
 use Rattle.agreement.specs.Meaning.{Both}
@@ -19,31 +19,12 @@ use Rattle.agreement.specs.Alike.{Alike, subports_at, wire_renamed}
 use Rattle.agreement.specs.Names.{naming, node_of_lem, one_name}
 use Rattle.agreement.specs.Standing.{PortHere, here#}
 use Rattle.agreement.specs.PlanLaws.{set_here, set_elsewhere, set_splits}
+use Rattle.multiportgraph.specs.Ends.{seen_still}
 
 -- what is there depends on the blocks alone
 pub there_by_blocks : (K K' : Plan) → K'.blocks ≡ K.blocks → (x : SketchPort) → is_there K' x ≡ is_there K x
 unfolding is_there
 there_by_blocks K K' e x = ap (λ (l : List PlanBlock). ltb x.position (ports_on_side l x.block x.side)) e
-
--- Places where the blocks are the same.
-
-module _ {m : MultiPortGraph} {M : Model} {m' : MultiPortGraph} {M' : Model} (f : Fine m M) (f' : Fine m' M') (same : SameBlocks m M m' M') where
-  pub node_same : (x : model.InnerPlace) → Seen m M x → M'.node x.node ≡ M.node x.node
-  node_same x s = let k = seen_live f x s in (same.0 x.node k.0 k.1).1 ∙ sym k.1.1
-
-  pub seen_still : (x : model.InnerPlace) → Seen m M x → Seen m' M' x
-  seen_still x s =
-      let k = seen_live f x s in
-      (subst (λ (v : Slots). x.pos < count_of v x.side) (sym (node_same x s)) s.0, (same.0 x.node k.0 k.1).0)
-
-  pub slot_still : (x : model.InnerPlace) → Seen m M x → slot_of M'.node x ≡ slot_of M.node x
-  slot_still x s = same_slot M M' x (node_same x s)
-
-  pub seen_before : (x : model.InnerPlace) → Seen m' M' x → Seen m M x
-  seen_before x s =
-      let k = seen_live f' x s in
-      let c = same.1 x.node k.0 k.1 in
-      (subst (λ (v : Slots). x.pos < count_of v x.side) (k.1.1 ∙ sym c.1) s.0, c.0)
 
 -- The blocks are the same.
 
@@ -66,7 +47,7 @@ module _ {b : Both} {M : Model} (a : Alike b M) (kit : State) (plan : Plan) {M' 
         plan_named = λ p i. a.plan_named p (subst (Member p) blocks i);
         plan_once = rw blocks a.plan_once;
         subports = λ x s n i e.
-            subports x (seen_before a.rel.fine rel.fine same x s) n.name (subst (λ (v : ℕ). Member (naming v n.name) b.names) e i);
+            subports x (seen_still rel.fine a.rel.fine (same.1, same.0) x s).0 n.name (subst (λ (v : ℕ). Member (naming v n.name) b.names) e i);
         splits_there = λ s i. there_by_blocks b.plan plan blocks (port_at s) ∙ splits s i;
         wires = wires;
       }

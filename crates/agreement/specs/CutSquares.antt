@@ -1,10 +1,9 @@
 -- The squares of the two cuts: at an end, and of every wire at a port.
 use Rattle.std.specs.Prelude.{◌≡◌, refl, true, not, [], map, ◌⊎◌, ℕ, ◌≤◌, eqb, ltb, Option, Some, None, Result, Ok, Err}
-use Rattle.std.proofs.Common.{sym, ◌∙◌, subst, inl, inr, arith, lt-ltb, ltb-true, ltb-false, ne_eqb}
+use Rattle.std.proofs.Common.{sym, ◌∙◌, subst, inl, inr, arith, ltb-true, ltb-false, ne_eqb}
 use Rattle.std.proofs.Math.Path.{ap}
 use Rattle.std.proofs.Math.Bool.{Bool, false, cond}
 use Rattle.std.proofs.Math.Logic.{⊎_elim}
-use Rattle.std.proofs.Math.Seq.{get_or-set_other}
 use Rattle.portgraph.specs.Lookups.{port_link}
 use Rattle.portgraph.specs.Calls.{unlink_port}
 use Rattle.portgraph.specs.Meaning.{unlink_model, remove_model, at_node, same_place}
@@ -17,10 +16,9 @@ use Rattle.multiportgraph.specs.WellFormed.{copy_place, Fine, Seen, outer, IsEnd
 use Rattle.multiportgraph.specs.Ends.{Hangs, EndOf, split_has_copy, unsplit_is_end, ends_join_ends}
 use Rattle.multiportgraph.specs.HiddenStays.{true_not_false, hidden_below, split_below, same_slot}
 use Rattle.multiportgraph.specs.LinkCutLaws.{end_is, end_is_here, end_is_same, cut_end_lem}
-use Rattle.multiportgraph.specs.CopyLaws.{CopyGone, copy_goes, unsplit_split, same_test}
-use Rattle.multiportgraph.specs.CaseLaws.{cut_sub_cases}
+use Rattle.multiportgraph.specs.CopyLaws.{CopyGone, copy_goes, unsplit_split, same_test, hidden_other}
 use Rattle.multiportgraph.proofs.CutLaws.{cut_cases}
-use Rattle.multiportgraph.specs.Cases.{cut_refused, cut_end, cut_seen}
+use Rattle.multiportgraph.specs.Cases.{cut_refused, cut_seen}
 use Rattle.multiportgraph.specs.Calls.{cut_port, cut_sub, cut_plain}
 use Rattle.multiportgraph.specs.Graph.{with_graph}
 use Rattle.multiportgraph.specs.HiddenNodes.{remove_copy, unsplit}
@@ -37,7 +35,7 @@ use Rattle.theorems.specs.Book.{spot_of, read_by, book_cut}
 use Rattle.theorems.proofs.AnswerWires.{place_at}
 use Rattle.theorems.specs.Conditions.{SubRefused, sub_offset, sub_dead, sub_lacks, cut_dead}
 use Rattle.theorems.proofs.CutCall.{cut_refuses}
-use Rattle.theorems.proofs.CutSubCall.{cut_sub_refuses}
+use Rattle.theorems.proofs.CutSubCall.{cut_sub_refuses, cut_sub_there}
 use Rattle.theorems.specs.PortCases.{seen_block_port, is_lacking, end_is_lem}
 use Rattle.theorems.proofs.WireRule.{rel_cut}
 use Rattle.sketches.specs.Plan.{Plan, is_there, spot_named, far_from, offset_read, subports_of, set_subports, with_wires}
@@ -49,11 +47,11 @@ use Rattle.sketches.specs.declared.sketch.Reason.TheVariants as reason
 use Rattle.agreement.specs.Meaning.{Both, PortMeans, means_cut, means_cut_sub}
 use Rattle.agreement.specs.Agreement.{StandsAt, CutAlike, EndAlike}
 use Rattle.agreement.specs.Alike.{Alike, subports_at, wire_renamed}
-use Rattle.agreement.specs.Square.{Square}
+use Rattle.agreement.specs.Square.{Square, squared, as_both}
 use Rattle.agreement.specs.Names.{naming, SameTest, same_spot, without_renamed, far_renamed, far_renamed_lem}
 use Rattle.agreement.specs.Standing.{PortHere, PortGone, here#, port_meant, wires_named, is_split_lem}
 use Rattle.agreement.specs.PlanLaws.{set_release, set_adds, set_blocks, set_wires}
-use Rattle.agreement.specs.KeptSplits.{split_kept, same_subports}
+use Rattle.agreement.specs.KeptSplits.{split_kept, same_subports, copies_apart}
 use Rattle.agreement.specs.Carry.{alike_after, subports_set, set_there}
 use Rattle.agreement.specs.Asked.{same_tests, asked_alike, far_stands, far_of_end, far_of_free, whole_here, whole_only}
 use Rattle.sketches.specs.declared.sketch.Reason.{Reason}
@@ -62,9 +60,9 @@ use Rattle.port_tables.specs.declared.index.PortIndex.{PortIndex}
 use Rattle.portgraph.specs.declared.portgraph.NoSuchPort.{NoSuchPort}
 use Rattle.multi_tables.specs.declared.answers.SubportIndex.{SubportIndex}
 use Rattle.std.proofs.lemmas.Bool.{false_from_ne_true}
-use Rattle.portgraph.specs.Joins.{to_same}
 use Rattle.multiportgraph.specs.LowerSteps.{link_cut}
 use Rattle.agreement.specs.LinkSteps.{spot_here}
+use Rattle.std.specs.Cmp.{both_ways}
 
 -- Cutting an end keeps every port as split as it was.
 
@@ -158,9 +156,7 @@ module _ {b : Both} {M : Model} (a : Alike b M) (p o : ℕ) (x : SketchPort) whe
       ends : (h : PortHere b M p x) → o ≤ 65534 → (v : End) → end_at m p x.side o ≡ v → LeftBy (cut_sub m p o)
       ends h small lacking e = refused _ (sub_lacks small (here# h) (h.is_seen, h.slot) (is_lacking a.rel.fine p (here# h) o (h.is_seen, h.slot) e))
       ends h small (inner q) e =
-          let g : cut_sub m p o ≡ cut_end m p (inner q) =
-          cut_sub_cases m p o ∙ rw (lt-ltb o 65535 (omega arith), seen_block_port a.rel.fine p (here# h) (h.is_seen, h.slot), e) refl in
-          subst LeftBy (sym g) (left_done h q (end_is_lem a.rel.fine p (here# h) o q (h.is_seen, h.slot) e) (unlink_port m.graph q).answer)
+          subst LeftBy (sym (cut_sub_there a.rel.fine p o (here# h) small (h.is_seen, h.slot) q e)) (left_done h q (end_is_lem a.rel.fine p (here# h) o q (h.is_seen, h.slot) e) (unlink_port m.graph q).answer)
 
       start : (t : Bool) → ltb o 65535 ≡ t → PortHere b M p x ⊎ PortGone b M p x → LeftBy (cut_sub m p o)
       start false e k = let l = ltb-false o 65535 e in refused _ (sub_offset (omega arith))
@@ -171,8 +167,7 @@ pub cut_sub_square : {b : Both} {M : Model} (p o : ℕ) (x : SketchPort) (means 
 unfolding sketch.cut_subport
 cut_sub_square {b} {M} p o x means a room =
     let k = subst (λ (v : Result (Option (SubportIndex × PortPlace)) Refusal). EndAlike b.names v (sketch.subport_link b.plan x o)) (link_cut b.kit.graph p o) (asked_alike a p o x means) in
-    let l = cut_left a p o x means (sketch.subport_link b.plan x o) k in
-    record { answers = k; model = l.0; alike = l.1 }
+    squared (k, cut_left a p o x means (sketch.subport_link b.plan x o) k)
 
 -- Every wire at a port.
 
@@ -184,16 +179,12 @@ module _ {m : MultiPortGraph} {M : Model} (f : Fine m M) (x : model.InnerPlace) 
   abbrev model_without : Model
   model_without = remove_model M h.copy (f.copy h.copy h.is_copy).meta
 
-  hidden_still : (n : ℕ) → (n ≡ h.copy → ⊥) → is_hidden without# n ≡ is_hidden m n
-  unfolding is_hidden remove_copy
-  hidden_still n other = get_or-set_other m.copy_node h.copy n false false other
-
   pub copy_keeps_splits : (y : model.InnerPlace) → Seen m M y → (y ≡ x → ⊥) → SameSplit m M without# model_without y
   copy_keeps_splits y s away =
       split_kept f g.fine y s
       (λ k.
-      let other : k.copy ≡ h.copy → ⊥ = λ e. away (to_same k.from (ap (λ (c : ℕ). M.join (copy_place m c)) e ∙ h.from)) in (
-        hidden_still k.copy other ∙ k.is_copy,
+      let other : k.copy ≡ h.copy → ⊥ = copies_apart h k away in (
+        hidden_other m (slot_of M.node x) h.copy k.copy other ∙ k.is_copy,
         upd_other M.node h.copy gone k.copy other,
         drop_kept (at_node h.copy) M.join y (copy_place m k.copy) k.back (ne_eqb y.node h.copy shown) (ne_eqb k.copy h.copy other),
       ))
@@ -219,13 +210,10 @@ cut_link g p = refl
 -- an unsplit port is one end
 whole_test : {m : MultiPortGraph} {M : Model} (f : Fine m M) (x : model.InnerPlace) (s : Seen m M x) → is_split m (slot_of M.node x) ≡ false →
     (z : model.InnerPlace) → IsEnd m M z → end_is (outer m M x) (outer m M z) ≡ at_spot (spot x.node x.side x.pos) (outer m M z)
-whole_test {m} {M} f x s n z ez = go (at_spot (spot x.node x.side x.pos) (outer m M z)) refl
-  where
-    go : (t : Bool) → at_spot (spot x.node x.side x.pos) (outer m M z) ≡ t → end_is (outer m M x) (outer m M z) ≡ t
-    go true e = ap (λ (v : model.InnerPlace). end_is (outer m M x) (outer m M v)) (whole_only f x n z ez e) ∙ end_is_here (outer m M x)
-    go false e =
-        false_from_ne_true _
-        (λ t. true_not_false (ap (at_spot (spot x.node x.side x.pos)) (end_is_same (outer m M x) (outer m M z) t) ∙ whole_here f x s) e)
+whole_test {m} {M} f x s n z ez =
+    both_ways (end_is (outer m M x) (outer m M z)) (at_spot (spot x.node x.side x.pos) (outer m M z))
+    (λ t. ap (at_spot (spot x.node x.side x.pos)) (end_is_same (outer m M x) (outer m M z) t) ∙ whole_here f x s)
+    (λ t. ap (λ (v : model.InnerPlace). end_is (outer m M x) (outer m M v)) (whole_only f x n z ez t) ∙ end_is_here (outer m M x))
 
 module _ {b : Both} {M : Model} (a : Alike b M) (p : ℕ) (x : SketchPort) where
   abbrev kit_graph : MultiPortGraph
@@ -357,11 +345,9 @@ module _ {b : Both} {M : Model} (a : Alike b M) (p : ℕ) (x : SketchPort) where
 
           go : (t : Bool) → is_split kit_graph p ≡ t → WholeLeft (cut_port kit_graph p) (sketch.cut_port b.plan x)
           go true e =
-              subst (λ (w : PortUnlinked). WholeLeft w (sketch.cut_port b.plan x)) (sym (cases true e))
-              (subst (WholeLeft (whole true)) (sym (plan_cut_lem h.there false (is_split_lem a h ∙ ap not e))) (split_left h e))
+              as_both WholeLeft _ (cases true e) (plan_cut_lem h.there false (is_split_lem a h ∙ ap not e)) (split_left h e)
           go false e =
-              subst (λ (w : PortUnlinked). WholeLeft w (sketch.cut_port b.plan x)) (sym (cases false e))
-              (subst (WholeLeft (whole false)) (sym (plan_cut_lem h.there true (is_split_lem a h ∙ ap not e))) (plain_left h e))
+              as_both WholeLeft _ (cases false e) (plan_cut_lem h.there true (is_split_lem a h ∙ ap not e)) (plain_left h e)
 
 pub cut_square : {b : Both} {M : Model} (p : ℕ) (x : SketchPort) (means : PortMeans b p x) → Square b M (means_cut p x means)
-cut_square {b} {M} p x means a room = let l = whole_left a p x means in record { answers = l.0; model = l.1.0; alike = l.1.1 }
+cut_square {b} {M} p x means a room = squared (whole_left a p x means)

@@ -1,8 +1,9 @@
 -- A port whose hidden node stays, with its counts and its link, stays split with as many subports.
-use Rattle.std.specs.Prelude.{◌≡◌, refl, Bool, true, false, cond, ℕ}
+use Rattle.std.specs.Prelude.{◌≡◌, refl, Bool, true, false, cond, ℕ, List}
 use Rattle.std.proofs.Common.{sym, ◌∙◌, ap, arith}
 use Rattle.portgraph.specs.Model as model
-use Rattle.portgraph.specs.Model.{Model, to, Slots, Holds, slot_of, count_of, first_of, side_start}
+use Rattle.portgraph.specs.Model.{Model, to, Slots, Holds, slot_of, count_of, first_of, side_start, slots_at}
+use Rattle.port_tables.specs.declared.node_entry.NodeSlot.{NodeSlot}
 use Rattle.portgraph.specs.PlaceLaws.{meta_of_node}
 use Rattle.port_tables.specs.declared.direction.Direction.{Direction}
 use Rattle.portgraph.specs.declared.portgraph.PortGraph.{PortGraph}
@@ -13,14 +14,24 @@ use Rattle.multiportgraph.specs.SetLaws.{SameSplit}
 use Rattle.multiportgraph.specs.Reading.{is_hidden, is_split, copy_side, subports}
 use Rattle.multiportgraph.specs.declared.multiportgraph.MultiPortGraph.{MultiPortGraph}
 use Rattle.agreement.specs.Alike.{subports_at}
+use Rattle.std.proofs.lemmas.Bool.{false_from_ne_true}
+use Rattle.portgraph.specs.Joins.{to_same}
 
--- all models of a graph have the same nodes
-pub same_nodes : {g : PortGraph} {M N : Model} → Holds g M → Holds g N → (n : ℕ) → N.node n ≡ M.node n
-same_nodes h k n = sym (k.nodes n) ∙ h.nodes n
+-- models of graphs with one node table have the same nodes
+pub nodes_by_table : {g h : PortGraph} {M N : Model} → Holds g M → Holds h N → g.node_meta ≡ h.node_meta → (n : ℕ) → N.node n ≡ M.node n
+nodes_by_table a b e n = sym (b.nodes n) ∙ (ap (λ (l : List NodeSlot). slots_at l n) (sym e) ∙ a.nodes n)
 
 -- so they count the same subports
 pub any_model : (m : MultiPortGraph) {M N : Model} → Holds m.graph M → Holds m.graph N → (x : model.InnerPlace) → subports_at m N x ≡ subports_at m M x
-any_model m {M} {N} h k x = ap (λ (s : ℕ). cond (is_split m s) (subports m s x.side) 0) (same_slot M N x (same_nodes h k x.node))
+any_model m {M} {N} h k x = ap (λ (s : ℕ). cond (is_split m s) (subports m s x.side) 0) (same_slot M N x (nodes_by_table h k refl x.node))
+
+-- a port that is not linked is not split
+pub unlinked_whole : {m : MultiPortGraph} {M : Model} → Fine m M → (x : model.InnerPlace) → Seen m M x → ((y : model.InnerPlace) → M.join x ≡ to y → ⊥) → subports_at m M x ≡ 0
+unlinked_whole {m} {M} f x s free = rw (false_from_ne_true (is_split m (slot_of M.node x)) (λ t. let h = split_has_copy f x s t in free _ h.back)) refl
+
+-- different ports hang on different hidden nodes
+pub copies_apart : {m : MultiPortGraph} {M : Model} {x y : model.InnerPlace} (h : Hangs m M x) (k : Hangs m M y) → (y ≡ x → ⊥) → k.copy ≡ h.copy → ⊥
+copies_apart {m} {M} h k away e = away (to_same k.from (ap (λ (c : ℕ). M.join (copy_place m c)) e ∙ h.from))
 
 module _ {m : MultiPortGraph} {M : Model} {m' : MultiPortGraph} {M' : Model} (f : Fine m M) (f' : Fine m' M') (x : model.InnerPlace) where
   pub hangs_after : (h : Hangs m M x) → is_hidden m' h.copy ≡ true → M'.node h.copy ≡ M.node h.copy → M'.join x ≡ to (copy_place m h.copy) →

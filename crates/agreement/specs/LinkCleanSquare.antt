@@ -1,7 +1,7 @@
 -- The square of a link that leaves no stub: 7, 18, 11, 12 in the same places and nothing left by them; accepted, it is the link of ports.
 use Rattle.std.specs.Prelude.{◌≡◌, Bool, ◌⊎◌, ℕ, Result, Err}
-use Rattle.std.proofs.Math.Path.{refl, transport}
-use Rattle.std.proofs.Common.{sym, ◌∙◌, ap, inl, inr}
+use Rattle.std.proofs.Math.Path.{refl}
+use Rattle.std.proofs.Common.{◌∙◌, ap, inl, inr}
 use Rattle.std.proofs.Math.Bool.{true, false}
 use Rattle.port_tables.specs.Entries.{same_side}
 use Rattle.portgraph.specs.Model.{Model}
@@ -28,7 +28,7 @@ use Rattle.sketches.specs.declared.sketch.SketchPort.{SketchPort}
 use Rattle.agreement.specs.Meaning.{Both, PortMeans, link_clean_plan, means_link_clean}
 use Rattle.agreement.specs.Agreement.{HasRoom}
 use Rattle.agreement.specs.Alike.{Alike}
-use Rattle.agreement.specs.Square.{pair, Square}
+use Rattle.agreement.specs.Square.{pair, Square, squared, as_both}
 use Rattle.agreement.specs.Standing.{PortHere, PortGone, here#, port_meant}
 use Rattle.agreement.specs.LinkTests.{taken_alike}
 use Rattle.agreement.specs.LinkSteps.{LinkResult, prepare_alike, second_prepared, accepted_result}
@@ -47,9 +47,6 @@ module _ {b : Both} {M : Model} (a : Alike b M) (p q : ℕ) (x y : SketchPort) (
 
   abbrev Done : Type 0
   Done = Outcome (link_clean m p q) (sketch.link_clean b.plan x y)
-
-  so : (v : PortsLinked) (w : Sketched (Result (SketchEnd × SketchEnd) Reason)) → link_clean m p q ≡ v → sketch.link_clean b.plan x y ≡ w → Outcome v w → Done
-  so v w e g r = transport (λ i. Outcome (sym e i) (sym g i)) r
 
   -- both ports are of blocks, and 18 is not given
   module _ (h : PortHere b M p x) (k : PortHere b M q y) (free : Taken m M p q → ⊥) (untaken : input_taken b.plan x y ≡ false) where
@@ -75,26 +72,26 @@ module _ {b : Both} {M : Model} (a : Alike b M) (p q : ℕ) (x y : SketchPort) (
           let s = prepare_alike a h m₁ u o e in
           let t = second_prepared a s k m₂ v r g in
           let l = links_otherwise a.rel.fine p q free (here# h) (here# k) m₁ m₂ u o v r at_first at_second e g opposite in
-          so _ (both_linked b.plan x y) (link_is_clean m p q _ _ (ap (λ (v : PortsLinked). v.answer) l) ∙ l)
+          as_both Outcome (both_linked b.plan x y) (link_is_clean m p q _ _ (ap (λ (v : PortsLinked). v.answer) l) ∙ l)
           (rw (h.there, untaken, k.there, c, i) refl) (accepted_result a h k m₁ u o m₂ v r s t opposite)
 
     sides : (c : Bool) → same_side x.side y.side ≡ c → Done
     unfolding sketch.link_clean reason_number
     sides false c = both_ends a p q h k free (no_room c) (λ m₁ m₂ u o v r e g. linked c m₁ m₂ u o v r e g (is_full b.plan) refl)
     sides true c =
-        so _ (leaves b.plan (Err reason.SameSide))
+        as_both Outcome (leaves b.plan (Err reason.SameSide))
         (clean_refuses a.rel.fine p q _ (clean_one_side (here# h) (here# k) at_first at_second free (same_side_is x.side y.side c)))
         (rw (h.there, untaken, k.there, c) refl) ((_, refl), (M, a))
 
   wired : (h : PortHere b M p x) (k : PortHere b M q y ⊎ PortGone b M q y) (taken : Bool) → kit.input_taken m p q ≡ taken → input_taken b.plan x y ≡ taken → Done
   unfolding sketch.link_clean reason_number
   wired h k true e t =
-      so _ (leaves b.plan (Err reason.InputWired))
+      as_both Outcome (leaves b.plan (Err reason.InputWired))
       (clean_refuses a.rel.fine p q _ (clean_wired (here# h) (h.is_seen, h.slot) (none_hidden a q y k) (so_taken a.rel.fine p q e)))
       (rw (h.there, t) refl) ((_, refl), (M, a))
   wired h (inl k) false e t = sides h k (so_free a.rel.fine p q e) t (same_side x.side y.side) refl
   wired h (inr g) false e t =
-      so _ (leaves b.plan (Err reason.UnknownSecondPort))
+      as_both Outcome (leaves b.plan (Err reason.UnknownSecondPort))
       (clean_refuses a.rel.fine p q _ (clean_second_dead (here# h) (h.is_seen, h.slot) g.0 (so_free a.rel.fine p q e)))
       (rw (h.there, t, g.1) refl) ((_, refl), (M, a))
 
@@ -102,9 +99,8 @@ module _ {b : Both} {M : Model} (a : Alike b M) (p q : ℕ) (x y : SketchPort) (
   unfolding sketch.link_clean reason_number
   done (inl h) k = wired h k (kit.input_taken m p q) refl (taken_alike a p q x y (inl h) k)
   done (inr g) k =
-      so _ (leaves b.plan (Err reason.UnknownPort)) (clean_refuses a.rel.fine p q _ (clean_first_dead g.0)) (rw g.1 refl) ((_, refl), (M, a))
+      as_both Outcome (leaves b.plan (Err reason.UnknownPort)) (clean_refuses a.rel.fine p q _ (clean_first_dead g.0)) (rw g.1 refl) ((_, refl), (M, a))
 
 pub link_clean_square : {b : Both} {M : Model} (p q : ℕ) (x y : SketchPort) (first : PortMeans b p x) (second : PortMeans b q y) → Square b M (means_link_clean p q x y first second)
 link_clean_square p q x y first second a room =
-    let r = done a p q x y first second room (port_meant a p x first) (port_meant a q y second) in
-    record { answers = r.0; model = r.1.0; alike = r.1.1 }
+    squared (done a p q x y first second room (port_meant a p x first) (port_meant a q y second))

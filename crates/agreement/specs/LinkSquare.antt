@@ -1,7 +1,7 @@
 -- The square of a link of ports: 7, 18, 11, 12 in the same places, with what 11 and 12 leave prepared; accepted, the same ends and one wire more.
 use Rattle.std.specs.Prelude.{◌≡◌, Bool, ◌⊎◌, ℕ, Result, Err}
-use Rattle.std.proofs.Math.Path.{refl, transport}
-use Rattle.std.proofs.Common.{sym, ap, inl, inr}
+use Rattle.std.proofs.Math.Path.{refl}
+use Rattle.std.proofs.Common.{ap, inl, inr}
 use Rattle.std.proofs.Math.Bool.{true, false}
 use Rattle.port_tables.specs.Entries.{same_side}
 use Rattle.portgraph.specs.Model.{Model}
@@ -27,7 +27,7 @@ use Rattle.sketches.specs.declared.sketch.SketchPort.{SketchPort}
 use Rattle.agreement.specs.Meaning.{Both, PortMeans, link_plan, means_link}
 use Rattle.agreement.specs.Agreement.{HasRoom}
 use Rattle.agreement.specs.Alike.{Alike}
-use Rattle.agreement.specs.Square.{pair, Square}
+use Rattle.agreement.specs.Square.{pair, Square, squared, as_both}
 use Rattle.agreement.specs.Standing.{PortHere, PortGone, here#, port_meant}
 use Rattle.agreement.specs.LinkTests.{taken_alike}
 use Rattle.agreement.specs.LinkSteps.{LinkResult, prepare_alike, second_prepared, accepted_result}
@@ -65,9 +65,6 @@ module _ {b : Both} {M : Model} (a : Alike b M) (p q : ℕ) (x y : SketchPort) (
   abbrev Done : Type 0
   Done = Outcome (link_pair m p q) (sketch.link_ports b.plan x y)
 
-  so : (v : PortsLinked) (w : Sketched (Result (SketchEnd × SketchEnd) Reason)) → link_pair m p q ≡ v → sketch.link_ports b.plan x y ≡ w → Outcome v w → Done
-  so v w e g r = transport (λ i. Outcome (sym e i) (sym g i)) r
-
   no_room : LinkRefused m M p q m NoRoom → ⊥
   no_room c = room.kit (ap (λ (v : PortsLinked). v.answer) (link_refuses a.rel.fine p q m NoRoom c))
 
@@ -85,7 +82,7 @@ module _ {b : Both} {M : Model} (a : Alike b M) (p q : ℕ) (x y : SketchPort) (
     sides m₁ m₂ u o v r e g true c full i =
         let s = prepare_alike a h m₁ u o e in
         let t = second_prepared a s k m₂ v r g in
-        so _ (leaves (ready (ready b.plan x) y) (Err reason.SameSide))
+        as_both Outcome (leaves (ready (ready b.plan x) y) (Err reason.SameSide))
         (link_refuses a.rel.fine p q m₂ _ (link_one_side (here# h) (here# k) m₁ m₂ u o v r at_first at_second free e g (same_side_is x.side y.side c)))
         (rw (h.there, untaken, k.there, c) refl) ((_, refl), (t.model, t.alike))
     sides m₁ m₂ u o v r e g false c true i =
@@ -95,7 +92,7 @@ module _ {b : Both} {M : Model} (a : Alike b M) (p q : ℕ) (x y : SketchPort) (
         let s = prepare_alike a h m₁ u o e in
         let t = second_prepared a s k m₂ v r g in
         let opposite = same_side_false x.side y.side c in
-        so _ (both_linked b.plan x y) (links_otherwise a.rel.fine p q free (here# h) (here# k) m₁ m₂ u o v r at_first at_second e g opposite)
+        as_both Outcome (both_linked b.plan x y) (links_otherwise a.rel.fine p q free (here# h) (here# k) m₁ m₂ u o v r at_first at_second e g opposite)
         (rw (h.there, untaken, k.there, c, i) refl) (accepted_result a h k m₁ u o m₂ v r s t opposite)
 
     here : Done
@@ -107,14 +104,14 @@ module _ {b : Both} {M : Model} (a : Alike b M) (p q : ℕ) (x y : SketchPort) (
   alone h g free untaken hiding.full e = absurd (no_room (link_first_full (here# h) (h.is_seen, h.slot) (dead_not_hidden a.rel.fine q g.0) free e))
   alone h g free untaken (hiding.ready m₁ u o) e =
       let s = prepare_alike a h m₁ u o e in
-      so _ (leaves (ready b.plan x) (Err reason.UnknownSecondPort))
+      as_both Outcome (leaves (ready b.plan x) (Err reason.UnknownSecondPort))
       (link_refuses a.rel.fine p q m₁ _ (link_second_dead (here# h) m₁ u o (h.is_seen, h.slot) g.0 free e))
       (rw (h.there, untaken, g.1) refl) ((_, refl), (s.model, s.alike))
 
   wired : (h : PortHere b M p x) (k : PortHere b M q y ⊎ PortGone b M q y) (taken : Bool) → kit.input_taken m p q ≡ taken → input_taken b.plan x y ≡ taken → Done
   unfolding sketch.link_ports reason_number
   wired h k true e t =
-      so _ (leaves b.plan (Err reason.InputWired))
+      as_both Outcome (leaves b.plan (Err reason.InputWired))
       (link_refuses a.rel.fine p q m _ (link_wired (here# h) (h.is_seen, h.slot) (none_hidden a q y k) (so_taken a.rel.fine p q e)))
       (rw (h.there, t) refl) ((_, refl), (M, a))
   wired h (inl k) false e t = here h k (so_free a.rel.fine p q e) t
@@ -124,9 +121,8 @@ module _ {b : Both} {M : Model} (a : Alike b M) (p q : ℕ) (x y : SketchPort) (
   unfolding sketch.link_ports reason_number
   done (inl h) k = wired h k (kit.input_taken m p q) refl (taken_alike a p q x y (inl h) k)
   done (inr g) k =
-      so _ (leaves b.plan (Err reason.UnknownPort)) (link_refuses a.rel.fine p q m _ (link_first_dead g.0)) (rw g.1 refl) ((_, refl), (M, a))
+      as_both Outcome (leaves b.plan (Err reason.UnknownPort)) (link_refuses a.rel.fine p q m _ (link_first_dead g.0)) (rw g.1 refl) ((_, refl), (M, a))
 
 pub link_square : {b : Both} {M : Model} (p q : ℕ) (x y : SketchPort) (first : PortMeans b p x) (second : PortMeans b q y) → Square b M (means_link p q x y first second)
 link_square p q x y first second a room =
-    let r = done a p q x y first second room (port_meant a p x first) (port_meant a q y second) in
-    record { answers = r.0; model = r.1.0; alike = r.1.1 }
+    squared (done a p q x y first second room (port_meant a p x first) (port_meant a q y second))

@@ -2,7 +2,7 @@
 -- a link that is accepted leaves.
 use Rattle.std.specs.Prelude.{◌≡◌, refl, List, [], ◌∷◌, map, ℕ, Result, Ok}
 use Rattle.std.proofs.Math.Path.{sym, transport}
-use Rattle.std.proofs.Common.{◌∙◌, ap, subst, inl, inr}
+use Rattle.std.proofs.Common.{◌∙◌, ap, subst}
 use Rattle.port_tables.specs.Limits.{present}
 use Rattle.portgraph.specs.Calls.{link_ports}
 use Rattle.portgraph.specs.Meaning.{link_model}
@@ -12,12 +12,12 @@ use Rattle.portgraph.specs.GoodSlots.{zero_is_not_one}
 use Rattle.port_tables.specs.declared.direction.Direction.{Direction}
 use Rattle.port_tables.specs.declared.direction.Direction.TheVariants.{Incoming, Outgoing}
 use Rattle.multi_tables.specs.Forms.{subport#}
-use Rattle.multiportgraph.specs.WellFormed.{Fine, lift, outer, IsEnd, WireIn, SameBlocks, HasEnd}
-use Rattle.multiportgraph.specs.Ends.{outer_apart}
+use Rattle.multiportgraph.specs.WellFormed.{Fine, lift, outer, IsEnd, WireIn, SameBlocks}
+use Rattle.multiportgraph.specs.Ends.{outer_apart, seen_still}
 use Rattle.multiportgraph.specs.Graph.{with_graph}
 use Rattle.multiportgraph.specs.HiddenNodes.{prepare}
 use Rattle.multiportgraph.specs.HiddenNodes as hiding
-use Rattle.port_tables.specs.Places.{Place, Wire, spot, wire_of_sides, next_offset}
+use Rattle.port_tables.specs.Places.{Wire, spot, wire_of_sides, next_offset}
 use Rattle.multiportgraph.specs.LinkCutLaws.{Joined, join_ends}
 use Rattle.multiportgraph.specs.PrepareLaws.{prepare_law}
 use Rattle.multiportgraph.specs.SplitLaws.{KeptEnd, PreparedEnd, end_of_wire}
@@ -27,7 +27,7 @@ use Rattle.theorems.specs.Book.{Book, with_wires, spot_of, add_wire, book_link}
 use Rattle.theorems.specs.History.{State}
 use Rattle.theorems.specs.ReleaseClaims.{for_release}
 use Rattle.theorems.specs.ReleaseLaws.{prepare_for}
-use Rattle.theorems.proofs.WireRule.{spot_of_lem, rel_same, rel_linked}
+use Rattle.theorems.proofs.WireRule.{rel_same, rel_linked, spot_at}
 use Rattle.sketches.specs.Plan.{Plan, spot_named, subports_of, place_named, subports_ready, offset_ready, ready}
 use Rattle.sketches.specs.PlanCalls.{Sketched, both_linked, with_wire}
 use Rattle.sketches.specs.CallsWf.{ready_wires}
@@ -38,13 +38,14 @@ use Rattle.agreement.specs.Alike.{Alike, subports_at, place_renamed, wire_rename
 use Rattle.agreement.specs.Names.{naming, name_of_lem}
 use Rattle.agreement.specs.Standing.{PortHere, here#, subports_here}
 use Rattle.agreement.specs.PlanLaws.{set_release, set_adds, set_blocks, set_wires}
-use Rattle.agreement.specs.Carry.{there_by_blocks, seen_still, slot_still, alike_after, subports_set, set_there}
+use Rattle.agreement.specs.Carry.{there_by_blocks, alike_after, subports_set, set_there}
 use Rattle.agreement.specs.PreparedSubports.{prepared_subports, linked_subports}
 use Rattle.agreement.specs.LinkTests.{next_alike, ready_offset}
 use Rattle.sketches.specs.declared.sketch.Reason.{Reason}
 use Rattle.sketches.specs.declared.sketch.SketchEnd.{SketchEnd}
 use Rattle.multi_tables.specs.declared.answers.Refusal.{Refusal}
 use Rattle.multi_tables.specs.declared.answers.SubportIndex.{SubportIndex}
+use Rattle.theorems.specs.LinkLaw.{end_of_sides}
 
 -- a port that both have, after a call that keeps the blocks
 unfoldable pub still_here : {b : Both} {M : Model} {p : ℕ} {x : SketchPort} → Alike b M → PortHere b M p x → (kit : State) (K : Plan) {M' : Model} → Fine kit.graph M' →
@@ -52,15 +53,15 @@ unfoldable pub still_here : {b : Both} {M : Model} {p : ℕ} {x : SketchPort} �
 still_here {b} {M} {p} {x} a h kit K f same blocks =
     record {
       node = h.node;
-      is_seen = seen_still a.rel.fine f same (here# h) h.is_seen;
-      slot = slot_still a.rel.fine f same (here# h) h.is_seen ∙ h.slot;
+      is_seen = (seen_still a.rel.fine f same (here# h) h.is_seen).0;
+      slot = (seen_still a.rel.fine f same (here# h) h.is_seen).1 ∙ h.slot;
       named = h.named;
       there = there_by_blocks b.plan K blocks x ∙ h.there;
     }
 
 -- where the book has it
 pub spot_here : {b : Both} {M : Model} {p : ℕ} {x : SketchPort} → Alike b M → (h : PortHere b M p x) → spot_of b.kit.book.blocks p ≡ spot h.node x.side x.position
-spot_here {b} a h = ap (spot_of b.kit.book.blocks) (sym h.slot) ∙ spot_of_lem a.rel (here# h) h.is_seen
+spot_here a h = spot_at a.rel (here# h) h.is_seen _ h.slot
 
 -- Preparing.
 
@@ -109,10 +110,6 @@ prepare_alike {b} {M} {p} {x} a h m u o e =
     }
 
 -- Linking.
-
-end_of_sides : (d : Direction) (p q : Place) → HasEnd (wire_of_sides d p q) p
-end_of_sides Incoming p q = inr refl
-end_of_sides Outgoing p q = inl refl
 
 -- two free inner ends, of ports that both have
 pub record FreeEnds {b : Both} {M : Model} {p q : ℕ} {x y : SketchPort} (h : PortHere b M p x) (k : PortHere b M q y) (o r : ℕ) : Type 0 where

@@ -25,7 +25,8 @@ use Rattle.multiportgraph.specs.declared.multiportgraph.MultiPortGraph.{MultiPor
 use Rattle.port_tables.specs.declared.release.Release.{Release}
 use Rattle.port_tables.specs.declared.release.Release.TheVariants.{One, Two}
 use Rattle.theorems.specs.Book.{read_by}
-use Rattle.theorems.specs.BookLaws.{or_true, any_touches_lem}
+use Rattle.theorems.specs.BookLaws.{any_touches_lem}
+use Rattle.std.specs.Cmp.{both_ways}
 use Rattle.theorems.specs.TakenLaws.{wired_input_lem, input_wired}
 use Rattle.theorems.proofs.WireRule.{has_end_touches, touches_has_end, offset_of_lem}
 use Rattle.sketches.specs.Plan.{spot_named, wired_side, taken_under, input_taken, offset_ready}
@@ -35,24 +36,19 @@ use Rattle.agreement.specs.Meaning.{Both}
 use Rattle.agreement.specs.Alike.{Alike}
 use Rattle.agreement.specs.Names.{any_renamed, next_renamed, same_end, same_spot}
 use Rattle.agreement.specs.Standing.{PortHere, PortGone, here#, offset_read_lem, wires_named}
-use Rattle.std.proofs.lemmas.Bool.{or_right}
+use Rattle.std.proofs.lemmas.Bool.{or_right, or_cases}
+use Rattle.theorems.specs.PortCases.{free_unless}
 
 -- some wire has an end that passes a test
 pub touching : (f : Place → Bool) (l : List Wire) → any_touches f l ≡ true → (w : Wire) × Member w l × (touches f w ≡ true)
 unfolding any_touches
 touching f [] e = absurd (zero_is_not_one (cc))
-touching f (w ∷ l) e = go (or_true (touches f w) (any_touches f l) e) (touching f l)
+touching f (w ∷ l) e = go (or_cases (touches f w) (any_touches f l) e) (touching f l)
   where
     go : (touches f w ≡ true) ⊎ (any_touches f l ≡ true) → (any_touches f l ≡ true → (v : Wire) × Member v l × (touches f v ≡ true)) →
         (v : Wire) × Member v (w ∷ l) × (touches f v ≡ true)
     go (inl t) rest = (w, inl refl, t)
     go (inr t) rest = let r = rest t in (r.0, inr r.1, r.2)
-
--- two tests that hold together are the same
-same_tests : (s t : Bool) → (s ≡ true → t ≡ true) → (t ≡ true → s ≡ true) → s ≡ t
-same_tests true t a b = sym (a refl)
-same_tests false true a b = b refl
-same_tests false false a b = refl
 
 module _ {b : Both} {M : Model} (a : Alike b M) where
   abbrev m : MultiPortGraph
@@ -94,7 +90,7 @@ module _ {b : Both} {M : Model} (a : Alike b M) where
         let w = r.0 in
         let is_wire = a.rel.wires.booked w r.1 in
         ⊎_elim (λ e. absurd (out w is_wire (at_spot_is h.node x.side x.position w.out e).1)) (λ e. into w is_wire (at_spot_is h.node x.side x.position w.into e))
-        (or_true _ _ r.2)
+        (or_cases _ _ r.2)
       where
         out : (w : Wire) → WireIn m M w → w.out.side ≡ x.side → ⊥
         out w i e = let k = out_side a.rel.fine w i in zero_is_not_one (cc)
@@ -126,7 +122,7 @@ module _ {b : Both} {M : Model} (a : Alike b M) where
         go Outgoing e = sym (ap (wired_seen m p) (is ∙ ap (visible h.node) e))
         go Incoming e =
             ap (λ (t : Bool). cond t (any_touches (at_spot (spot_named x)) b.plan.wires) false) h.there
-            ∙ (at_spot_alike ∙ same_tests _ _ (wired_there e) there_wired)
+            ∙ (at_spot_alike ∙ both_ways _ _ (wired_there e) there_wired)
 
     -- 13: an end as read has a wire exactly if its inner end is linked.
 
@@ -147,14 +143,11 @@ module _ {b : Both} {M : Model} (a : Alike b M) where
           zero_is_not_one (cc)
 
       pub unwired_free : is_wired b.plan x o ≡ false → M.join e.end ≡ nowhere
-      unwired_free t = go (M.join e.end) refl
-        where
-          go : (v : Far) → M.join e.end ≡ v → M.join e.end ≡ nowhere
-          go nowhere j = j
-          go (to y) j =
-              let w = wire_of_end a.rel.fine e.end y e.is_end j in
-              let k : HasEnd w.0 (lift place (read_by (is_split m p) o)) = subst (HasEnd w.0) its_place w.2 in
-              absurd (true_not_false (wired_is ∙ any_touches_lem _ w.0 wires (a.rel.wires.walks w.0 w.1) (has_end_touches place _ w.0 k)) t)
+      unwired_free t =
+          free_unless (M.join e.end) (λ y j.
+          let w = wire_of_end a.rel.fine e.end y e.is_end j in
+          let k : HasEnd w.0 (lift place (read_by (is_split m p) o)) = subst (HasEnd w.0) its_place w.2 in
+          true_not_false (wired_is ∙ any_touches_lem _ w.0 wires (a.rel.wires.walks w.0 w.1) (has_end_touches place _ w.0 k)) t)
 
   gone_unwired : (p : ℕ) (x : SketchPort) → PortGone b M p x → wired_side b.plan x x.side ≡ wired_input m p
   unfolding wired_input

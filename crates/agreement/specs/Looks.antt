@@ -1,11 +1,12 @@
 -- From the relation: what both look like. First the wires that lists have under the names, then counts and fan-outs, then the walks.
-use Rattle.std.specs.Prelude.{◌≡◌, refl, Bool, true, false, cond, List, [], ◌∷◌, ℕ, ◌+◌, length}
-use Rattle.std.proofs.Common.{sym, ◌∙◌, ap, subst, arith}
+use Rattle.std.proofs.lemmas.List.{length-map}
+use Rattle.std.specs.Prelude.{◌≡◌, refl, Bool, true, List, ℕ, length}
+use Rattle.std.proofs.Common.{sym, ◌∙◌, ap, subst}
 use Rattle.port_tables.specs.Lists.{Member, Once}
 use Rattle.std.specs.List.{filter}
-use Rattle.port_tables.specs.Listing.{member_map, map_member, member_filter, filter_member, length_map}
-use Rattle.port_tables.specs.Places.{Place, Wire, flag}
-use Rattle.theorems.specs.BookLaws.{left_once}
+use Rattle.port_tables.specs.Listing.{member_map, map_member, member_filter, filter_member}
+use Rattle.port_tables.specs.Places.{Place, Wire}
+use Rattle.theorems.specs.BookLaws.{left_once, count_is}
 use Rattle.theorems.specs.Claims.{count}
 use Rattle.theorems.specs.ListingClaims.{Exactly}
 use Rattle.portgraph.specs.Model.{Model}
@@ -14,14 +15,6 @@ use Rattle.agreement.specs.Agreement.{PlaceMeans, WireMeans, WiresAlike}
 use Rattle.agreement.specs.Alike.{Alike, place_renamed, wire_renamed}
 use Rattle.agreement.specs.Names.{naming, HasName, WireNamed, name_of_lem, renamed_once, filter_renamed}
 use Rattle.agreement.specs.Standing.{wires_named}
-
-count_is : (f : Wire → Bool) (l : List Wire) → length (filter f l) ≡ count f l
-count_is f [] = refl
-count_is f (w ∷ l) = go (f w) (count_is f l)
-  where
-    go : (t : Bool) → length (filter f l) ≡ count f l → length (cond t (w ∷ filter f l) (filter f l)) ≡ flag t + count f l
-    go true e = omega arith
-    go false e = omega arith
 
 -- Wires.
 
@@ -72,7 +65,7 @@ module _ {b : Both} {M : Model} (a : Alike b M) where
   as_many f g same =
       ap (λ (l : List Wire). length (filter g l)) a.wires
       ∙ (ap length (sym (filter_renamed b.names f g same b.kit.book.wires (wires_named a)))
-      ∙ (length_map (wire_renamed b.names) (filter f b.kit.book.wires) ∙ count_is f b.kit.book.wires))
+      ∙ (length-map (filter f b.kit.book.wires) (wire_renamed b.names) ∙ count_is f b.kit.book.wires))
 
 -- and those of them that pass another
 pub passing_too : {l : List Wire} {P : Wire → Type 0} {ws : List Wire} → Exactly l P ws → (g : Wire → Bool) → Exactly l (λ w. P w × (g w ≡ true)) (filter g ws)

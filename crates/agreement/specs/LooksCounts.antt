@@ -1,16 +1,16 @@
--- Counts, fan-outs and starts of walks are alike, from the relation and from the engine's history.
+-- Counts, fan-outs and starts of walks are alike, from the relation.
+use Rattle.std.proofs.lemmas.List.{length-map}
 use Rattle.std.specs.Prelude.{◌≡◌, refl, Bool, false, cond, not, ◌⊎◌, ℕ, ◌+◌, length}
 use Rattle.std.proofs.Common.{sym, ◌∙◌, ap, subst, inl, inr, arith, length-append, eq-eqb, ne_eqb}
 use Rattle.std.proofs.Math.Bool.{true}
 use mathlib.Core.List.{List, [], ◌∷◌, map, flat_map}
 use Rattle.std.proofs.Math.Logic.{⊎_elim}
 use Rattle.std.proofs.Math.Dec.{eqb}
-use Rattle.std.proofs.lemmas.Bool.{eqb-false}
-use Rattle.port_tables.specs.Lists.{Member, Once, Rising, range}
+use Rattle.std.proofs.lemmas.Bool.{eqb-false, not-true}
+use Rattle.port_tables.specs.Lists.{Member, Rising, range}
 use Rattle.std.specs.List.{filter}
-use Rattle.portgraph.specs.Lookups.{num_ports, contains_node, is_some}
+use Rattle.portgraph.specs.Lookups.{num_ports}
 use Rattle.portgraph.specs.Model.{Model, Slots, count_of}
-use Rattle.portgraph.specs.PlaceLaws.{meta_of_node, gone_has_no_meta}
 use Rattle.port_tables.specs.declared.direction.Direction.{Direction}
 use Rattle.port_tables.specs.declared.direction.Direction.TheVariants.{Incoming, Outgoing}
 use Rattle.port_tables.specs.declared.node_entry.NodeMeta.{NodeMeta}
@@ -21,21 +21,17 @@ use Rattle.multiportgraph.specs.HiddenStays.{true_not_false}
 use Rattle.multiportgraph.specs.WellFormed.{inner#, BlockIs}
 use Rattle.theorems.proofs.ListingWires.{spot_back}
 use Rattle.port_tables.specs.Listing as listing
-use Rattle.port_tables.specs.Listing.{member_map, map_member, member_filter, filter_member, filter_all, rising_filter, rising_map, length_map, length_range}
+use Rattle.port_tables.specs.Listing.{rising_once, member_map, map_member, member_filter, filter_member, filter_all, rising_filter, rising_map, length_range}
 use Rattle.multiportgraph.specs.Lookups.{port_fan_out, node_fan_out}
 use Rattle.port_tables.specs.Places.{spot, at_spot, touches}
 use Rattle.multiportgraph.specs.Walks.{start_at_port, start_at_node, start_between}
 use Rattle.multiportgraph.specs.Wires.{blocks, ports_of_side}
 use Rattle.multiportgraph.specs.declared.multiportgraph.MultiPortGraph.{MultiPortGraph}
-use Rattle.port_tables.specs.declared.release.Release.{Release}
-use Rattle.theorems.specs.Book.{Call}
-use Rattle.theorems.specs.BookLaws.{not_so_true}
 use Rattle.theorems.specs.Claims.{FanOutIsWires}
 use Rattle.theorems.specs.Conditions.{cut_dead, remove_unknown}
-use Rattle.theorems.proofs.FanOutWires.{fan_out_is_wires}
-use Rattle.theorems.specs.History.{State, run}
-use Rattle.theorems.proofs.HistoryCounts.{visible_links_of_history}
-use Rattle.theorems.specs.PortCases.{seen_block_port, seen_none}
+use Rattle.theorems.proofs.FanOutWires.{fans_booked}
+use Rattle.theorems.proofs.HistoryCounts.{counted}
+use Rattle.theorems.specs.PortCases.{seen_block_port, seen_none, live_contained, gone_not_contained}
 use Rattle.theorems.proofs.PortListing.{ListsBlocks, blocks_as_many, blocks_list, both_sides, by_blocks_lists, lists_as_long, ascending_lists, visible_ports_ascending}
 use Rattle.theorems.proofs.StartLaws.{port_fan_out_refused, node_fan_out_refused}
 use Rattle.sketches.specs.Plan.{PlanBlock, has_block, ports_on_side, ports_in_all, spot_named, is_there}
@@ -92,7 +88,7 @@ same_weights f g (x ∷ ns) l r s there back =
     (λ q i.
     let m = member_filter (not_named p.name) q l i in
     let y = back q m.0 in
-    (y.0, ⊎_elim (λ e. absurd (eqb-false q.name p.name (not_so_true _ m.1) (sym y.2 ∙ (ap (λ (v : Naming). v.name) e ∙ sym k.2)))) (λ j. j) y.1, y.2)) in
+    (y.0, ⊎_elim (λ e. absurd (eqb-false q.name p.name (not-true _ m.1) (sym y.2 ∙ (ap (λ (v : Naming). v.name) e ∙ sym k.2)))) (λ j. j) y.1, y.2)) in
     let e = k.3 in
     omega arith
 
@@ -122,7 +118,7 @@ unfolding sum flat_map ports_of_side
 sum_gathered m [] = refl
 sum_gathered m (x ∷ l) =
     let e = sum_gathered m l in
-    let side : (d : Direction) → length (ports_of_side m d x.node) ≡ num_ports m.graph x.node d = λ d. length_map _ (range 0 (num_ports m.graph x.node d)) ∙ length_range 0 _ in
+    let side : (d : Direction) → length (ports_of_side m d x.node) ≡ num_ports m.graph x.node d = λ d. length-map (range 0 (num_ports m.graph x.node d)) _ ∙ length_range 0 _ in
     let i = side Incoming in
     let o = side Outgoing in
     let both = length-append (ports_of_side m Incoming x.node) (ports_of_side m Outgoing x.node) in
@@ -130,10 +126,6 @@ sum_gathered m (x ∷ l) =
     omega arith
 
 -- Lists without repeats.
-
-once_of : (l : List ℕ) → Rising listing.Apart l → Once l
-once_of [] r = tt
-once_of (x ∷ l) r = ((λ i. r.0 x i refl), once_of l r.1)
 
 module _ {b : Both} {M : Model} (a : Alike b M) where
   abbrev m : MultiPortGraph
@@ -158,7 +150,7 @@ module _ {b : Both} {M : Model} (a : Alike b M) where
   same_nodes_count =
       visible_nodes_lem a.rel.fine
       ∙ (blocks_as_many (blocks_list a.rel.fine) names_list
-      ∙ (length_map node_of b.names
+      ∙ (length-map b.names node_of
       ∙ (sym (sum_ones b.names)
       ∙ (sym (same_weights (λ p. 1) (λ x. 1) b.names b.plan.blocks a.apart a.plan_once (λ x i. let r = block_of x i in (r.0, r.1, r.2, refl)) a.plan_named) ∙ weigh_ones b.plan.blocks))))
 
@@ -187,16 +179,10 @@ module _ {b : Both} {M : Model} (a : Alike b M) where
   starts_at_port_lem p x means =
       ⊎_elim (λ (h : PortHere b M p x). rw (seen_block_port a.rel.fine p (here# h) (h.is_seen, h.slot), h.there) tt) (λ (g : PortGone b M p x). rw (seen_none a.rel.fine p g.0, g.1) (_, refl)) (port_meant a p x means)
 
-  block_live : (n k : ℕ) → BlockHere b M n k → contains_node m.graph n ≡ true
-  block_live n k h = ap is_some (meta_of_node a.rel.fine.good a.rel.fine.holds n h.meta h.block.1)
-
-  block_gone : (n k : ℕ) → BlockGone b M n k → contains_node m.graph n ≡ false
-  block_gone n k g = ap is_some (gone_has_no_meta a.rel.fine.good a.rel.fine.holds n g.0)
-
   pub starts_at_block_lem : (n k : ℕ) → BlockMeans b n k → StartAlike (start_at_node m n) (has_block b.plan.blocks k) reason.UnknownBlock
   unfolding start_at_node reason_number
   starts_at_block_lem n k means =
-      ⊎_elim (λ (h : BlockHere b M n k). rw (block_live n k h, h.block.0, h.there) tt) (λ (g : BlockGone b M n k). rw (block_gone n k g, g.1) (_, refl)) (block_meant a n k means)
+      ⊎_elim (λ (h : BlockHere b M n k). rw (live_contained a.rel.fine n h.meta h.block.1, h.block.0, h.there) tt) (λ (g : BlockGone b M n k). rw (gone_not_contained a.rel.fine n g.0, g.1) (_, refl)) (block_meant a n k means)
 
   pub starts_between_lem : (n k c j : ℕ) → BlockMeans b n k → BlockMeans b c j →
       StartAlike (start_between m n c) (cond (has_block b.plan.blocks k) (has_block b.plan.blocks j) false) reason.UnknownBlock
@@ -205,9 +191,9 @@ module _ {b : Both} {M : Model} (a : Alike b M) where
     where
       go : BlockHere b M n k ⊎ BlockGone b M n k → BlockHere b M c j ⊎ BlockGone b M c j →
           StartAlike (start_between m n c) (cond (has_block b.plan.blocks k) (has_block b.plan.blocks j) false) reason.UnknownBlock
-      go (inr g) t = rw (block_gone n k g, g.1) (_, refl)
-      go (inl h) (inr g) = rw (block_live n k h, block_gone c j g, h.there, g.1) (_, refl)
-      go (inl h) (inl g) = rw (block_live n k h, block_live c j g, h.block.0, g.block.0, h.there, g.there) tt
+      go (inr g) t = rw (gone_not_contained a.rel.fine n g.0, g.1) (_, refl)
+      go (inl h) (inr g) = rw (live_contained a.rel.fine n h.meta h.block.1, gone_not_contained a.rel.fine c g.0, h.there, g.1) (_, refl)
+      go (inl h) (inl g) = rw (live_contained a.rel.fine n h.meta h.block.1, live_contained a.rel.fine c g.meta g.block.1, h.block.0, g.block.0, h.there, g.there) tt
 
   -- The blocks.
 
@@ -215,8 +201,8 @@ module _ {b : Both} {M : Model} (a : Alike b M) where
   same_blocks =
       let l = blocks_list a.rel.fine in
       record {
-        kit_once = once_of (blocks m) l.once;
-        sketch_once = once_of (listed.block_names b.plan) (rising_map OtherName listing.Apart (λ (p : PlanBlock). p.name) b.plan.blocks a.plan_once (λ p q i j e. e));
+        kit_once = rising_once listing.Apart (λ x d. d refl) (blocks m) l.once;
+        sketch_once = rising_once listing.Apart (λ x d. d refl) (listed.block_names b.plan) (rising_map OtherName listing.Apart (λ (p : PlanBlock). p.name) b.plan.blocks a.plan_once (λ p q i j e. e));
         there = λ n i.
             let k = l.only n i in
             let x = a.kit_named n k.0 k.1 in
@@ -229,37 +215,34 @@ module _ {b : Both} {M : Model} (a : Alike b M) where
             (x.0.node, subst (λ (v : ℕ). Member (naming x.0.node v) b.names) (x.2 ∙ sym p.2) x.1, l.all x.0.node r.0 r.1);
       }
 
-  -- With the engine's history.
+  -- With the engine's book.
 
-  module _ (release : Release) (calls : List Call) (is : b.kit ≡ run release calls) where
-    pub same_links_count : visible_links m ≡ listed.wire_count b.plan
-    same_links_count =
-        subst (λ (s : State). visible_links s.graph ≡ length s.book.wires) (sym is) (visible_links_of_history release calls)
-        ∙ sym (ap length a.wires ∙ length_map (wire_renamed b.names) b.kit.book.wires)
+  pub same_links_count : visible_links m ≡ listed.wire_count b.plan
+  same_links_count = counted b.kit M a.rel ∙ sym (ap length a.wires ∙ length-map b.kit.book.wires (wire_renamed b.names))
 
-    fans : FanOutIsWires b.kit
-    fans = subst FanOutIsWires (sym is) (fan_out_is_wires release calls)
+  fans : FanOutIsWires b.kit
+  fans = fans_booked b.kit a.rel
 
-    pub same_fan_out : (p : ℕ) (x : SketchPort) → PortMeans b p x → CountAlike (port_fan_out m p) (listed.port_fan_out b.plan x)
-    unfolding listed.port_fan_out reason_number
-    same_fan_out p x (no_port e g) =
-        ⊎_elim (λ (h : PortHere b M p x). absurd (true_not_false h.there g)) (λ (d : PortGone b M p x). rw ((port_fan_out_refused a.rel.fine p _).1 (cut_dead d.0), d.1) (_, refl)) (port_meant a p x (no_port e g))
-    same_fan_out p x (same_port n e i) =
-        let k : port_fan_out m p ≡ _ = fans.of_port p n x.side x.position e in
-        let t : is_there b.plan x ≡ true = ⊎_elim (λ (h : PortHere b M p x). h.there) (λ (d : PortGone b M p x). absurd (here_or_gone d)) (port_meant a p x (same_port n e i)) in
-        rw (k, t)
-        (sym (as_many a (touches (at_spot (spot n x.side x.position))) (touches (at_spot (spot_named x)))
-        (same_touches b.names (at_spot (spot n x.side x.position)) (at_spot (spot_named x)) (same_spot b.names a.apart n x.block i x.side x.position))))
-      where
-        here_or_gone : PortGone b M p x → ⊥
-        here_or_gone d = let s = spot_back a.rel p n x.side x.position e in d.0 (inner# n x.side x.position) s.0.0 s.1
+  pub same_fan_out : (p : ℕ) (x : SketchPort) → PortMeans b p x → CountAlike (port_fan_out m p) (listed.port_fan_out b.plan x)
+  unfolding listed.port_fan_out reason_number
+  same_fan_out p x (no_port e g) =
+      ⊎_elim (λ (h : PortHere b M p x). absurd (true_not_false h.there g)) (λ (d : PortGone b M p x). rw ((port_fan_out_refused a.rel.fine p _).1 (cut_dead d.0), d.1) (_, refl)) (port_meant a p x (no_port e g))
+  same_fan_out p x (same_port n e i) =
+      let k : port_fan_out m p ≡ _ = fans.of_port p n x.side x.position e in
+      let t : is_there b.plan x ≡ true = ⊎_elim (λ (h : PortHere b M p x). h.there) (λ (d : PortGone b M p x). absurd (here_or_gone d)) (port_meant a p x (same_port n e i)) in
+      rw (k, t)
+      (sym (as_many a (touches (at_spot (spot n x.side x.position))) (touches (at_spot (spot_named x)))
+      (same_touches b.names (at_spot (spot n x.side x.position)) (at_spot (spot_named x)) (same_spot b.names a.apart n x.block i x.side x.position))))
+    where
+      here_or_gone : PortGone b M p x → ⊥
+      here_or_gone d = let s = spot_back a.rel p n x.side x.position e in d.0 (inner# n x.side x.position) s.0.0 s.1
 
-    pub same_block_fan_out : (n k : ℕ) → BlockMeans b n k → CountAlike (node_fan_out m n) (listed.block_fan_out b.plan k)
-    unfolding listed.block_fan_out reason_number
-    same_block_fan_out n k means = ⊎_elim here (λ (g : BlockGone b M n k). rw ((node_fan_out_refused a.rel.fine n _).1 (remove_unknown g.0), g.1) (_, refl)) (block_meant a n k means)
-      where
-        here : BlockHere b M n k → CountAlike (node_fan_out m n) (listed.block_fan_out b.plan k)
-        here h =
-            let c = a.rel.blocks.all n h.meta h.block in
-            rw (fans.of_block n c.0 c.1 c.2, h.there)
-            (sym (as_many a (λ w. eqb w.out.node n) (λ w. eqb w.out.node k) (λ w q. named_eqb b.names a.apart n k w.out.node h.named q.0)))
+  pub same_block_fan_out : (n k : ℕ) → BlockMeans b n k → CountAlike (node_fan_out m n) (listed.block_fan_out b.plan k)
+  unfolding listed.block_fan_out reason_number
+  same_block_fan_out n k means = ⊎_elim here (λ (g : BlockGone b M n k). rw ((node_fan_out_refused a.rel.fine n _).1 (remove_unknown g.0), g.1) (_, refl)) (block_meant a n k means)
+    where
+      here : BlockHere b M n k → CountAlike (node_fan_out m n) (listed.block_fan_out b.plan k)
+      here h =
+          let c = a.rel.blocks.all n h.meta h.block in
+          rw (fans.of_block n c.0 c.1 c.2, h.there)
+          (sym (as_many a (λ w. eqb w.out.node n) (λ w. eqb w.out.node k) (λ w q. named_eqb b.names a.apart n k w.out.node h.named q.0)))

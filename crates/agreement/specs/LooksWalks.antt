@@ -1,4 +1,4 @@
--- What each walk lists is alike, from the relation and from the engine's history; with it, all that both look like.
+-- What each walk lists is alike, from the relation; with it, all that both look like.
 use Rattle.std.specs.Prelude.{◌≡◌, Bool, true, false, cond, not, eqb}
 use Rattle.std.proofs.Math.Path.{refl, ap}
 use Rattle.std.proofs.Common.{sym, ◌∙◌, subst, arith, eqb-true, eq-eqb}
@@ -24,12 +24,9 @@ use Rattle.multiportgraph.specs.Walks.{port_links, node_links, neighbours, conne
 use Rattle.multiportgraph.specs.Wires.{wires_walked, ports_of_side, subports_of_port, subports_of_side}
 use Rattle.multiportgraph.specs.declared.multiportgraph.MultiPortGraph.{MultiPortGraph}
 use Rattle.multi_tables.specs.declared.answers.SubportLink.{SubportLink}
-use Rattle.port_tables.specs.declared.release.Release.{Release}
-use Rattle.theorems.specs.Book.{Call, spot_of}
-use Rattle.theorems.specs.History.{State, run}
 use Rattle.theorems.specs.ListingClaims.{wire_from, Exactly, InBook, OverSides, OutOfRange, NotOwnOutput, FarNodes}
-use Rattle.theorems.proofs.ListingWires.{listings_are_wires_of_port, listings_are_wires_of_node, listings_are_wires_of_neighbours, listings_are_wires_between}
-use Rattle.theorems.proofs.WireRule.{spot_of_lem}
+use Rattle.theorems.proofs.ListingWires.{port_listing, node_listing, neighbours_listing, connections_listing, over_sides}
+use Rattle.theorems.proofs.WireRule.{spot_at}
 use Rattle.sketches.specs.Plan as plan
 use Rattle.sketches.specs.Plan.{spot_named, ports_on_side, end#}
 use Rattle.sketches.specs.PlanLists as listed
@@ -44,6 +41,7 @@ use Rattle.agreement.specs.Standing.{BlockHere, block_here, PortHere, here#, por
 use Rattle.agreement.specs.Asked.{asked_alike}
 use Rattle.agreement.specs.Looks.{exactly_alike, passing, passing_too, plan_once}
 use Rattle.agreement.specs.LooksCounts.{same_nodes_count, same_side_ports, same_ports_count, same_links_count, same_fan_out, same_block_fan_out, starts_at_port_lem, starts_at_block_lem, starts_between_lem, same_blocks}
+use Rattle.multiportgraph.specs.ScanLaws.{flat_map_map}
 
 -- Lists that go along with each other.
 
@@ -64,11 +62,6 @@ module _ {A B : Type 0} (R : A → B → Type 0) where
   unfolding range
   along_map f g i zero h = tt
   along_map f g i (suc n) h = (h i, along_map f g (suc i) n h)
-
-gather_map : {A : Type 0} (f : ℕ → List A) (g : ℕ → ℕ) (i n : ℕ) → flat_map f (map g (range i n)) ≡ flat_map (λ j. f (g j)) (range i n)
-unfolding flat_map range
-gather_map f g i zero = refl
-gather_map f g i (suc n) = ap (λ (l : List _). f (g i) ++ l) (gather_map f g (suc i) n)
 
 -- an end on a side is named
 end_named_lem : (d : Direction) (l : List Naming) (w : Wire) → WireNamed l w → (k : ℕ) × Member (naming (end_on d w).node k) l
@@ -120,7 +113,7 @@ module _ {b : meaning.Both} {M : Model} (a : Alike b M) where
     unfolding here
     end_means d j o l =
         let p = here d j l in
-        ((n, ap (spot_of b.kit.book.blocks) (sym p.slot) ∙ spot_of_lem a.rel (inner# n d j) p.is_seen, i), refl)
+        ((n, spot_at a.rel (inner# n d j) p.is_seen _ p.slot, i), refl)
 
     port_subports : (d : Direction) (j : ℕ) → j < ports_on h.meta d →
         Alongside (EndMeans b) (subports_of_port m d (port_of m.graph n d j)) (map (end# (port_on k d j)) (offsets_of (plan.subports_of b.plan (port_on k d j))))
@@ -151,7 +144,7 @@ module _ {b : meaning.Both} {M : Model} (a : Alike b M) where
     side_subports d =
         let c : num_ports m.graph n d ≡ ports_on_side b.plan.blocks k d = same_side_ports a n k i d in
         let g : ports_on_side b.plan.blocks k d ≡ ports_on h.meta d = h.counts d in
-        rw (gather_map (subports_of_port m d) (port_of m.graph n d) 0 (num_ports m.graph n d), c)
+        rw (flat_map_map (subports_of_port m d) (port_of m.graph n d) (range 0 (num_ports m.graph n d)), c)
         (along_gather (EndMeans b) (λ j. subports_of_port m d (port_of m.graph n d j)) _ 0 (ports_on_side b.plan.blocks k d) (λ j l. port_subports d j (omega arith)))
 
     pub same_subports : (sides : Sides) → OverSides (λ d l. Alongside (EndMeans b) l (listed.subports_of_side b.plan k d)) sides (subports_of m n sides)
@@ -159,140 +152,107 @@ module _ {b : meaning.Both} {M : Model} (a : Alike b M) where
     same_subports (One d) = side_subports d
     same_subports Both = (subports_of_side m n Incoming, subports_of_side m n Outgoing, refl, side_subports Incoming, side_subports Outgoing)
 
-  -- With the engine's history.
+  -- With the engine's book.
 
-  module _ (release : Release) (calls : List Call) (is : b.kit ≡ run release calls) where
-    in_book : (n k : ℕ) → SameBlock b n k → InBook b.kit.book n
-    in_book n k i = let h = block_here a n k i in let c = a.rel.blocks.all n h.meta h.block in (c.0, c.1, c.2)
+  in_book : (n k : ℕ) → SameBlock b n k → InBook b.kit.book n
+  in_book n k i = let h = block_here a n k i in let c = a.rel.blocks.all n h.meta h.block in (c.0, c.1, c.2)
 
-    pub same_port_links : (p : ℕ) (x : SketchPort) → SamePort b p x → WiresAlike b.names (map (wire_from m x.side) (port_links m p)) (listed.links_of_port b.plan x)
-    same_port_links p x s =
-        let n = s.0 in
-        let kit : (s : State) → s ≡ run release calls → spot_of s.book.blocks p ≡ spot n x.side x.position →
-        Exactly s.book.wires (λ w. touches (at_spot (spot n x.side x.position)) w ≡ true) (map (wire_from s.graph x.side) (port_links s.graph p)) =
-        λ s q e. subst (λ (t : State). spot_of t.book.blocks p ≡ spot n x.side x.position →
-        Exactly t.book.wires (λ w. touches (at_spot (spot n x.side x.position)) w ≡ true) (map (wire_from t.graph x.side) (port_links t.graph p))) (sym q)
-        (listings_are_wires_of_port release calls p n x.side x.position) e in
-        exactly_alike a (kit b.kit is s.1) (passing a (touches (at_spot (spot_named x))))
-        (λ w i.
-        let e = same_touches b.names (at_spot (spot n x.side x.position)) (at_spot (spot_named x)) (same_spot b.names a.apart n x.block s.2 x.side x.position) w (wires_named a w i) in
-        ((λ t. sym e ∙ t), λ t. e ∙ t))
+  pub same_port_links : (p : ℕ) (x : SketchPort) → SamePort b p x → WiresAlike b.names (map (wire_from m x.side) (port_links m p)) (listed.links_of_port b.plan x)
+  same_port_links p x s =
+      let n = s.0 in
+      exactly_alike a (port_listing a.rel p n x.side x.position s.1) (passing a (touches (at_spot (spot_named x))))
+      (λ w i.
+      let e = same_touches b.names (at_spot (spot n x.side x.position)) (at_spot (spot_named x)) (same_spot b.names a.apart n x.block s.2 x.side x.position) w (wires_named a w i) in
+      ((λ t. sym e ∙ t), λ t. e ∙ t))
 
-    -- a wire has an end on a side of a block exactly if it has one on that of its name
-    end_at : (n k : ℕ) → SameBlock b n k → (d : Direction) (w : Wire) → Member w b.kit.book.wires →
-        ((end_on d w).node ≡ n → eqb (end_on d (wire_renamed b.names w)).node k ≡ true) × (eqb (end_on d (wire_renamed b.names w)).node k ≡ true → (end_on d w).node ≡ n)
-    end_at n k i d w j =
-        let e : eqb (end_on d w).node n ≡ eqb (end_on d (wire_renamed b.names w)).node k =
-        named_eqb b.names a.apart n k (end_on d w).node i (end_named_lem d b.names w (wires_named a w j)) ∙ ap (λ (v : ℕ). eqb v k) (sym (end_renamed d b.names w)) in
-        ((λ q. sym e ∙ eq-eqb _ _ q), λ t. eqb-true _ _ (e ∙ t))
+  -- a wire has an end on a side of a block exactly if it has one on that of its name
+  end_at : (n k : ℕ) → SameBlock b n k → (d : Direction) (w : Wire) → Member w b.kit.book.wires →
+      ((end_on d w).node ≡ n → eqb (end_on d (wire_renamed b.names w)).node k ≡ true) × (eqb (end_on d (wire_renamed b.names w)).node k ≡ true → (end_on d w).node ≡ n)
+  end_at n k i d w j =
+      let e : eqb (end_on d w).node n ≡ eqb (end_on d (wire_renamed b.names w)).node k =
+      named_eqb b.names a.apart n k (end_on d w).node i (end_named_lem d b.names w (wires_named a w j)) ∙ ap (λ (v : ℕ). eqb v k) (sym (end_renamed d b.names w)) in
+      ((λ q. sym e ∙ eq-eqb _ _ q), λ t. eqb-true _ _ (e ∙ t))
 
-    side_links : (n k : ℕ) → SameBlock b n k → (d : Direction) (l : List SubportLink) →
-        Exactly b.kit.book.wires (λ w. ((end_on d w).node ≡ n) × OutOfRange b.kit.book 0 0 (far_from d w)) (map (wire_from m d) l) →
-        WiresAlike b.names (map (wire_from m d) l) (listed.links_of_side b.plan k d)
-    side_links n k i d l e =
-        exactly_alike a e (passing a (λ w. eqb (end_on d w).node k))
-        (λ w j. let s = end_at n k i d w j in ((λ t. s.0 t.0), λ t. (s.1 t, λ p u v z. absurd (omega arith))))
+  side_links : (n k : ℕ) → SameBlock b n k → (d : Direction) (l : List SubportLink) →
+      Exactly b.kit.book.wires (λ w. ((end_on d w).node ≡ n) × OutOfRange b.kit.book 0 0 (far_from d w)) (map (wire_from m d) l) →
+      WiresAlike b.names (map (wire_from m d) l) (listed.links_of_side b.plan k d)
+  side_links n k i d l e =
+      exactly_alike a e (passing a (λ w. eqb (end_on d w).node k))
+      (λ w j. let s = end_at n k i d w j in ((λ t. s.0 t.0), λ t. (s.1 t, λ p u v z. absurd (omega arith))))
 
-    pub same_block_links : (n k : ℕ) → SameBlock b n k → (sides : Sides) →
-        OverSides (λ d l. WiresAlike b.names (map (wire_from m d) l) (listed.links_of_side b.plan k d)) sides (node_links m n sides 0 0)
-    same_block_links n k i sides = go sides (kit b.kit is (in_book n k i) sides)
-      where
-        kit : (s : State) → s ≡ run release calls → InBook s.book n → (sides : Sides) →
-            OverSides (λ d l. Exactly s.book.wires (λ w. ((end_on d w).node ≡ n) × OutOfRange s.book 0 0 (far_from d w)) (map (wire_from s.graph d) l)) sides (node_links s.graph n sides 0 0)
-        kit s q =
-            subst (λ (s : State). InBook s.book n → (sides : Sides) →
-            OverSides (λ d l. Exactly s.book.wires (λ w. ((end_on d w).node ≡ n) × OutOfRange s.book 0 0 (far_from d w)) (map (wire_from s.graph d) l)) sides (node_links s.graph n sides 0 0)) (sym q)
-            (λ c sides. listings_are_wires_of_node release calls n c sides 0 0)
+  pub same_block_links : (n k : ℕ) → SameBlock b n k → (sides : Sides) →
+      OverSides (λ d l. WiresAlike b.names (map (wire_from m d) l) (listed.links_of_side b.plan k d)) sides (node_links m n sides 0 0)
+  same_block_links n k i sides = over_sides (λ d l e. side_links n k i d l e) sides (node_links m n sides 0 0) (node_listing a.rel n (in_book n k i) sides 0 0)
 
-        go : (sides : Sides) → OverSides (λ d l. Exactly b.kit.book.wires (λ w. ((end_on d w).node ≡ n) × OutOfRange b.kit.book 0 0 (far_from d w)) (map (wire_from m d) l)) sides (node_links m n sides 0 0) →
-            OverSides (λ d l. WiresAlike b.names (map (wire_from m d) l) (listed.links_of_side b.plan k d)) sides (node_links m n sides 0 0)
-        go (One d) e = side_links n k i d (node_links m n (One d) 0 0) e
-        go Both e = (e.0, e.1, e.2, side_links n k i Incoming e.0 e.3, side_links n k i Outgoing e.1 e.4)
+  -- with the flag, a far end is on the block's own outgoing side in both or in neither
+  own_output : (n k : ℕ) → SameBlock b n k → (flag : Bool) (x y : Place) → (eqb x.node n ≡ eqb y.node k) → x.side ≡ y.side →
+      (NotOwnOutput n flag x → not (is_own_output k flag y) ≡ true) × (not (is_own_output k flag y) ≡ true → NotOwnOutput n flag x)
+  own_output n k i flag x y e s = (there flag (eqb y.node k) (same_side y.side Outgoing) refl refl, back)
+    where
+      there : (f c t : Bool) → eqb y.node k ≡ c → same_side y.side Outgoing ≡ t → NotOwnOutput n f x → not (cond f (cond c t false) false) ≡ true
+      there true true true p q h = absurd (h refl (eqb-true _ _ (e ∙ p)) (s ∙ same_side_true _ _ q))
+      there true true false p q h = refl
+      there true false t p q h = refl
+      there false c t p q h = refl
 
-    -- with the flag, a far end is on the block's own outgoing side in both or in neither
-    own_output : (n k : ℕ) → SameBlock b n k → (flag : Bool) (x y : Place) → (eqb x.node n ≡ eqb y.node k) → x.side ≡ y.side →
-        (NotOwnOutput n flag x → not (is_own_output k flag y) ≡ true) × (not (is_own_output k flag y) ≡ true → NotOwnOutput n flag x)
-    own_output n k i flag x y e s = (there flag (eqb y.node k) (same_side y.side Outgoing) refl refl, back)
-      where
-        there : (f c t : Bool) → eqb y.node k ≡ c → same_side y.side Outgoing ≡ t → NotOwnOutput n f x → not (cond f (cond c t false) false) ≡ true
-        there true true true p q h = absurd (h refl (eqb-true _ _ (e ∙ p)) (s ∙ same_side_true _ _ q))
-        there true true false p q h = refl
-        there true false t p q h = refl
-        there false c t p q h = refl
+      back : not (is_own_output k flag y) ≡ true → NotOwnOutput n flag x
+      back t f p q =
+          let c : eqb y.node k ≡ true = sym e ∙ eq-eqb _ _ p in
+          let d : y.side ≡ Outgoing = sym s ∙ q in
+          let z : not (is_own_output k flag y) ≡ false = rw (f, c, d) refl in
+          true_not_false t z
 
-        back : not (is_own_output k flag y) ≡ true → NotOwnOutput n flag x
-        back t f p q =
-            let c : eqb y.node k ≡ true = sym e ∙ eq-eqb _ _ p in
-            let d : y.side ≡ Outgoing = sym s ∙ q in
-            let z : not (is_own_output k flag y) ≡ false = rw (f, c, d) refl in
-            true_not_false t z
+  side_neighbours : (n k : ℕ) → SameBlock b n k → (d : Direction) (flag : Bool) (l : List ℕ) →
+      FarNodes b.kit.book.wires (λ w. ((end_on d w).node ≡ n) × NotOwnOutput n flag (far_from d w)) d l → FarAlike b.names d l (listed.neighbours_of_side b.plan k d flag)
+  side_neighbours n k i d flag l e = (
+    e.0,
+    _,
+    exactly_alike a e.1 (passing_too (passing a (λ w. eqb (end_on d w).node k)) (λ w. not (is_own_output k flag (far_from d w))))
+        (λ w j.
+        let s = end_at n k i d w j in
+        let r = far_renamed_node d b.names w in
+        let q : eqb (far_from d w).node n ≡ eqb (far_from d (wire_renamed b.names w)).node k =
+        named_eqb b.names a.apart n k (far_from d w).node i (far_named d b.names w (wires_named a w j)) ∙ ap (λ (v : ℕ). eqb v k) (sym r.0) in
+        let o = own_output n k i flag (far_from d w) (far_from d (wire_renamed b.names w)) q (sym r.1) in
+        ((λ t. (s.0 t.0, o.0 t.1)), λ t. (s.1 t.0, o.1 t.1))),
+    e.2,
+    refl,
+  )
 
-    side_neighbours : (n k : ℕ) → SameBlock b n k → (d : Direction) (flag : Bool) (l : List ℕ) →
-        FarNodes b.kit.book.wires (λ w. ((end_on d w).node ≡ n) × NotOwnOutput n flag (far_from d w)) d l → FarAlike b.names d l (listed.neighbours_of_side b.plan k d flag)
-    side_neighbours n k i d flag l e = (
-      e.0,
-      _,
-      exactly_alike a e.1 (passing_too (passing a (λ w. eqb (end_on d w).node k)) (λ w. not (is_own_output k flag (far_from d w))))
-          (λ w j.
-          let s = end_at n k i d w j in
-          let r = far_renamed_node d b.names w in
-          let q : eqb (far_from d w).node n ≡ eqb (far_from d (wire_renamed b.names w)).node k =
-          named_eqb b.names a.apart n k (far_from d w).node i (far_named d b.names w (wires_named a w j)) ∙ ap (λ (v : ℕ). eqb v k) (sym r.0) in
-          let o = own_output n k i flag (far_from d w) (far_from d (wire_renamed b.names w)) q (sym r.1) in
-          ((λ t. (s.0 t.0, o.0 t.1)), λ t. (s.1 t.0, o.1 t.1))),
-      e.2,
-      refl,
-    )
+  pub same_neighbours : (n k : ℕ) → SameBlock b n k → (sides : Sides) (flag : Bool) →
+      OverSides (λ d l. FarAlike b.names d l (listed.neighbours_of_side b.plan k d flag)) sides (neighbours m n sides flag)
+  same_neighbours n k i sides flag = over_sides (λ d l e. side_neighbours n k i d flag l e) sides (neighbours m n sides flag) (neighbours_listing a.rel n (in_book n k i) sides flag)
 
-    pub same_neighbours : (n k : ℕ) → SameBlock b n k → (sides : Sides) (flag : Bool) →
-        OverSides (λ d l. FarAlike b.names d l (listed.neighbours_of_side b.plan k d flag)) sides (neighbours m n sides flag)
-    same_neighbours n k i sides flag = go sides (kit b.kit is (in_book n k i) sides)
-      where
-        kit : (s : State) → s ≡ run release calls → InBook s.book n → (sides : Sides) →
-            OverSides (λ d. FarNodes s.book.wires (λ w. ((end_on d w).node ≡ n) × NotOwnOutput n flag (far_from d w)) d) sides (neighbours s.graph n sides flag)
-        kit s q =
-            subst (λ (s : State). InBook s.book n → (sides : Sides) →
-            OverSides (λ d. FarNodes s.book.wires (λ w. ((end_on d w).node ≡ n) × NotOwnOutput n flag (far_from d w)) d) sides (neighbours s.graph n sides flag)) (sym q)
-            (λ c sides. listings_are_wires_of_neighbours release calls n c sides flag)
+  pub same_connections : (n k c j : ℕ) → SameBlock b n k → SameBlock b c j →
+      WiresAlike b.names (map (wire_from m Outgoing) (connections m n c)) (listed.connections b.plan k j)
+  same_connections n k c j i l =
+      exactly_alike a (connections_listing a.rel n c (in_book n k i)) (passing_too (passing a (λ w. eqb w.out.node k)) (λ w. eqb w.into.node j))
+      (λ w t.
+      let s = end_at n k i Outgoing w t in
+      let u = end_at c j l Incoming w t in
+      ((λ q. (s.0 q.0, u.0 q.1)), λ q. (s.1 q.0, u.1 q.1)))
 
-        go : (sides : Sides) → OverSides (λ d. FarNodes b.kit.book.wires (λ w. ((end_on d w).node ≡ n) × NotOwnOutput n flag (far_from d w)) d) sides (neighbours m n sides flag) →
-            OverSides (λ d l. FarAlike b.names d l (listed.neighbours_of_side b.plan k d flag)) sides (neighbours m n sides flag)
-        go (One d) e = side_neighbours n k i d flag (neighbours m n (One d) flag) e
-        go Both e = (e.0, e.1, e.2, side_neighbours n k i Incoming flag e.0 e.3, side_neighbours n k i Outgoing flag e.1 e.4)
+  -- All of it.
 
-    pub same_connections : (n k c j : ℕ) → SameBlock b n k → SameBlock b c j →
-        WiresAlike b.names (map (wire_from m Outgoing) (connections m n c)) (listed.connections b.plan k j)
-    same_connections n k c j i l =
-        let kit : InBook b.kit.book n → Exactly b.kit.book.wires (λ w. (w.out.node ≡ n) × (w.into.node ≡ c)) (map (wire_from m Outgoing) (connections m n c)) =
-        subst (λ (s : State). InBook s.book n → Exactly s.book.wires (λ w. (w.out.node ≡ n) × (w.into.node ≡ c)) (map (wire_from s.graph Outgoing) (connections s.graph n c))) (sym is)
-        (listings_are_wires_between release calls n c) in
-        exactly_alike a (kit (in_book n k i)) (passing_too (passing a (λ w. eqb w.out.node k)) (λ w. eqb w.into.node j))
-        (λ w t.
-        let s = end_at n k i Outgoing w t in
-        let u = end_at c j l Incoming w t in
-        ((λ q. (s.0 q.0, u.0 q.1)), λ q. (s.1 q.0, u.1 q.1)))
-
-    -- All of it.
-
-    pub looks_alike : LooksAlike b
-    looks_alike =
-        record {
-          release = a.release;
-          nodes = same_nodes_count a;
-          ports = same_ports_count a;
-          links = same_links_count a release calls is;
-          side_ports = same_side_ports a;
-          fan_out = same_fan_out a release calls is;
-          block_fan_out = same_block_fan_out a release calls is;
-          asked = asked_alike a;
-          starts_at_port = starts_at_port_lem a;
-          starts_at_block = starts_at_block_lem a;
-          starts_between = starts_between_lem a;
-          blocks = same_blocks a;
-          wires = same_wires;
-          links_of_port = same_port_links;
-          links_of_block = same_block_links;
-          neighbours = same_neighbours;
-          connections = same_connections;
-          subports = same_subports;
-        }
+  pub looks_alike : LooksAlike b
+  looks_alike =
+      record {
+        release = a.release;
+        nodes = same_nodes_count a;
+        ports = same_ports_count a;
+        links = same_links_count a;
+        side_ports = same_side_ports a;
+        fan_out = same_fan_out a;
+        block_fan_out = same_block_fan_out a;
+        asked = asked_alike a;
+        starts_at_port = starts_at_port_lem a;
+        starts_at_block = starts_at_block_lem a;
+        starts_between = starts_between_lem a;
+        blocks = same_blocks a;
+        wires = same_wires;
+        links_of_port = same_port_links;
+        links_of_block = same_block_links;
+        neighbours = same_neighbours;
+        connections = same_connections;
+        subports = same_subports;
+      }

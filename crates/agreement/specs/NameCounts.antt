@@ -17,16 +17,12 @@ use Rattle.sketches.specs.declared.sketch.SketchPort.{SketchPort}
 use Rattle.sketches.specs.declared.sketch.Reason.TheVariants as reason
 use Rattle.agreement.specs.Meaning.{PlanCall, add_plan, remove_plan, set_plan, link_plan, link_clean_plan, link_sub_plan, cut_plan, cut_sub_plan, tidy_plan, PlanAnswerOf, plan_step, Both, start}
 use Rattle.agreement.specs.Histories.{PlanEntry, PairItem, calls, sheets, next_item, after, adds_of, call_adds, item_adds, accepted_adds}
-use Rattle.agreement.specs.PlanLaws.{set_adds}
+use Rattle.agreement.specs.PlanLaws.{set_adds, either_way}
 use Rattle.sketches.specs.declared.sketch.Reason.{Reason}
 
-either : {A : Type 0} (t : Bool) (u v : Sketched A) (n : ℕ) → u.plan.adds ≡ n → v.plan.adds ≡ n → (cond t u v).plan.adds ≡ n
-either true u v n p q = p
-either false u v n p q = q
-
-either_plan : (t : Bool) (u v : Plan) (n : ℕ) → u.adds ≡ n → v.adds ≡ n → (cond t u v).adds ≡ n
-either_plan true u v n p q = p
-either_plan false u v n p q = q
+-- the number of adds stays
+abbrev Kept : Plan → {A : Type 0} → Sketched A → Type 0
+Kept K v = v.plan.adds ≡ K.adds
 
 -- Calls.
 
@@ -41,9 +37,9 @@ module _ (K : Plan) where
   pub links_adds : (x y : SketchPort) → (sketch.link_ports K x y).plan.adds ≡ K.adds
   unfolding sketch.link_ports
   links_adds x y =
-      either (not (is_there K x)) _ _ _ refl
-      (either (input_taken K x y) _ _ _ refl
-      (either (not (is_there K y)) _ _ _ (ready_adds K x) (either (same_side x.side y.side) _ _ _ (twice_ready x y) (either (sketch.is_full K) _ _ _ refl (twice_ready x y)))))
+      either_way (Kept K) (not (is_there K x)) refl
+      (either_way (Kept K) (input_taken K x y) refl
+      (either_way (Kept K) (not (is_there K y)) (ready_adds K x) (either_way (Kept K) (same_side x.side y.side) (twice_ready x y) (either_way (Kept K) (sketch.is_full K) refl (twice_ready x y)))))
 
   -- an add: refused, or accepted with the number so far for its name
   module _ (i o : ℕ) where
@@ -82,32 +78,32 @@ module _ (K : Plan) where
   pub call_adds_lem : (k : PlanCall) → (plan_step K k).plan.adds ≡ K.adds + call_adds k (plan_step K k).answer
   unfolding sketch.remove_block sketch.set_counts sketch.link_clean sketch.link_subports sketch.cut_port sketch.cut_subport sketch.tidy_port
   call_adds_lem (add_plan i o) = add_adds i o
-  call_adds_lem (remove_plan n) = same (either (not (has_block K.blocks n)) _ _ _ refl refl)
+  call_adds_lem (remove_plan n) = same (either_way (Kept K) (not (has_block K.blocks n)) refl refl)
   call_adds_lem (set_plan n i o) =
       same
-      (either (not (leb (i + o) node_ports)) _ _ _ refl
-      (either (not (has_block K.blocks n)) _ _ _ refl (either (ltb port_slots (ports_in_all (map (sketch.recount n i o) K.blocks))) _ _ _ refl refl)))
+      (either_way (Kept K) (not (leb (i + o) node_ports)) refl
+      (either_way (Kept K) (not (has_block K.blocks n)) refl (either_way (Kept K) (ltb port_slots (ports_in_all (map (sketch.recount n i o) K.blocks))) refl refl)))
   call_adds_lem (link_plan x y) = same (links_adds x y)
   call_adds_lem (link_clean_plan x y) =
       same
-      (either (not (is_there K x)) _ _ _ refl
-      (either (input_taken K x y) _ _ _ refl
-      (either (not (is_there K y)) _ _ _ refl (either (same_side x.side y.side) _ _ _ refl (either (sketch.is_full K) _ _ _ refl (twice_ready x y))))))
+      (either_way (Kept K) (not (is_there K x)) refl
+      (either_way (Kept K) (input_taken K x y) refl
+      (either_way (Kept K) (not (is_there K y)) refl (either_way (Kept K) (same_side x.side y.side) refl (either_way (Kept K) (sketch.is_full K) refl (twice_ready x y))))))
   call_adds_lem (link_sub_plan x o y r) =
       same
-      (either (sketch.bad_offset o || sketch.bad_offset r) _ _ _ refl
-      (either (not (is_there K x)) _ _ _ refl
-      (either (lacks_offset K x o || cond (is_there K y) (lacks_offset K y r) false) _ _ _ refl
-      (either (input_taken K x y) _ _ _ refl
-      (either (not (is_there K y)) _ _ _ refl
-      (either (same_side x.side y.side) _ _ _ refl
-      (either (sketch.is_wired K x o || sketch.is_wired K y r) _ _ _ refl (either (sketch.is_full K) _ _ _ refl refl))))))))
-  call_adds_lem (cut_plan x) = same (either (not (is_there K x)) _ _ _ refl (set_adds (with_wires K (without (at_spot (spot_named x)) K.wires)) x 0))
-  call_adds_lem (cut_sub_plan x o) = same (either_plan (sketch.is_refused (sketch.subport_link K x o)) K _ _ refl refl)
+      (either_way (Kept K) (sketch.bad_offset o || sketch.bad_offset r) refl
+      (either_way (Kept K) (not (is_there K x)) refl
+      (either_way (Kept K) (lacks_offset K x o || cond (is_there K y) (lacks_offset K y r) false) refl
+      (either_way (Kept K) (input_taken K x y) refl
+      (either_way (Kept K) (not (is_there K y)) refl
+      (either_way (Kept K) (same_side x.side y.side) refl
+      (either_way (Kept K) (sketch.is_wired K x o || sketch.is_wired K y r) refl (either_way (Kept K) (sketch.is_full K) refl refl))))))))
+  call_adds_lem (cut_plan x) = same (either_way (Kept K) (not (is_there K x)) refl (set_adds (with_wires K (without (at_spot (spot_named x)) K.wires)) x 0))
+  call_adds_lem (cut_sub_plan x o) = same (either_way (λ (l : Plan). l.adds ≡ K.adds) (sketch.is_refused (sketch.subport_link K x o)) refl refl)
   call_adds_lem (tidy_plan x) =
       same
-      (either (not (is_there K x)) _ _ _ refl
-      (either_plan (eqb (subports_of K x) 0) K _ _ refl (set_adds K x (sketch.tidied (above_wired (spot_named x) K.wires)))))
+      (either_way (Kept K) (not (is_there K x)) refl
+      (either_way (λ (l : Plan). l.adds ≡ K.adds) (eqb (subports_of K x) 0) refl (set_adds K x (sketch.tidied (above_wired (spot_named x) K.wires)))))
 
   -- a call accepts one add at the most
   pub one_add : (k : PlanCall) → (plan_step K k).plan.adds ≤ suc K.adds
@@ -137,7 +133,7 @@ entries_adds K (p ∷ ps) = entries_adds (sketch.link_ports K p.from p.to).plan 
 
 sheet_adds : (K : Plan) (ps : List PlanEntry) → (sketch.sheet K ps).plan.adds ≡ K.adds
 unfolding sketch.sheet
-sheet_adds K ps = either (ltb sketch.sheet_entries (length ps)) _ _ _ refl (entries_adds K ps)
+sheet_adds K ps = either_way (Kept K) (ltb sketch.sheet_entries (length ps)) refl (entries_adds K ps)
 
 -- Histories.
 

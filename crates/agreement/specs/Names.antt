@@ -1,20 +1,21 @@
 -- Laws of names: a node has one name and a name one node, so tests on places, and lists of wires sifted by them, are the same under the names.
+use Rattle.std.proofs.lemmas.List.{length-map}
 use Rattle.std.proofs.Math.Path.{◌≡◌, refl, ap}
-use Rattle.std.proofs.Common.{sym, ◌∙◌, subst, inl, inr, arith, eq-eqb, ne_eqb, eqb-true}
+use Rattle.std.proofs.Common.{sym, ◌∙◌, subst, inl, inr, eq-eqb, ne_eqb, eqb-true}
 use Rattle.std.specs.Prelude.{Bool, not, eqb, leb, length}
 use Rattle.std.proofs.Math.Bool.{true, false, cond}
 use mathlib.Core.List.{List, [], ◌∷◌, map}
 use Prim.Native.Nat.{ℕ, zero, suc}
-use Rattle.std.proofs.lemmas.Bool.{eqb-false}
 use Rattle.port_tables.specs.Lists.{Member, Once, Rising}
 use Rattle.std.specs.List.{filter}
 use Rattle.port_tables.specs.Entries.{same_side, new_count}
 use Rattle.port_tables.specs.declared.direction.Direction.{Direction}
-use Rattle.port_tables.specs.Listing.{member_map, length_map}
+use Rattle.port_tables.specs.Listing.{member_map, map_same_on, filter_same, filter_map}
 use Rattle.port_tables.specs.Places.{Place, Wire, spot, at_spot, at_end, touches, of_node, of_dropped, without, any_touches, lowest_unwired, next_offset}
 use Rattle.sketches.specs.Plan.{Far, nothing, far, far_from}
 use Rattle.agreement.specs.Meaning.{Naming}
 use Rattle.agreement.specs.Alike.{Apart, name_of, place_renamed, wire_renamed}
+use Rattle.std.specs.Cmp.{both_ways}
 
 abbrev pub naming : ℕ → ℕ → Naming
 naming n k = record { node = n; name = k }
@@ -46,11 +47,9 @@ module _ (l : List Naming) (r : Rising Apart l) where
 
   -- nodes are the same exactly if their names are
   pub same_eqb : (n k c j : ℕ) → Member (naming n k) l → Member (naming c j) l → eqb c n ≡ eqb j k
-  same_eqb n k c j a b = go (eqb c n) refl
-    where
-      go : (t : Bool) → eqb c n ≡ t → t ≡ eqb j k
-      go true e = sym (eq-eqb j k (one_name c j k b (subst (λ (v : ℕ). Member (naming v k) l) (sym (eqb-true c n e)) a)))
-      go false e = sym (ne_eqb j k (λ q. eqb-false c n e (node_of_lem l r (naming c j) (naming n k) b a q)))
+  same_eqb n k c j a b =
+      both_ways (eqb c n) (eqb j k) (λ t. eq-eqb j k (one_name c j k b (subst (λ (v : ℕ). Member (naming v k) l) (sym (eqb-true c n t)) a)))
+      (λ t. eq-eqb c n (node_of_lem l r (naming c j) (naming n k) b a (eqb-true j k t)))
 
   pub named_eqb : (n k c : ℕ) → Member (naming n k) l → HasName l c → eqb c n ≡ eqb (name_of l c) k
   named_eqb n k c a h = same_eqb n k c h.0 a h.1 ∙ ap (λ (v : ℕ). eqb v k) (sym (name_of_lem l r c h.0 h.1))
@@ -87,15 +86,8 @@ AllNamed l ws = (w : Wire) → Member w ws → WireNamed l w
 -- those of a book's wires that pass a test are those of the sketch's that pass the same one
 pub filter_renamed : (l : List Naming) (f g : Wire → Bool) → ((w : Wire) → WireNamed l w → f w ≡ g (wire_renamed l w)) → (ws : List Wire) → AllNamed l ws →
     renamed l (filter f ws) ≡ filter g (renamed l ws)
-filter_renamed l f g same [] h = refl
-filter_renamed l f g same (w ∷ ws) h = go (f w) (g (wire_renamed l w)) (same w (h w (inl refl))) (filter_renamed l f g same ws (λ v i. h v (inr i)))
-  where
-    go : (s t : Bool) → s ≡ t → renamed l (filter f ws) ≡ filter g (renamed l ws) →
-        renamed l (cond s (w ∷ filter f ws) (filter f ws)) ≡ cond t (wire_renamed l w ∷ filter g (renamed l ws)) (filter g (renamed l ws))
-    go true true e rest = ap (λ (v : List Wire). wire_renamed l w ∷ v) rest
-    go false false e rest = rest
-    go true false e rest = absurd (let z : ◌≡◌ {A = ℕ} 0 1 = cc in omega arith)
-    go false true e rest = absurd (let z : ◌≡◌ {A = ℕ} 0 1 = cc in omega arith)
+filter_renamed l f g same ws h =
+    ap (renamed l) (filter_same f (λ w. g (wire_renamed l w)) ws (λ w i. same w (h w i))) ∙ sym (filter_map (wire_renamed l) g ws)
 
 module _ (l : List Naming) (f g : Place → Bool) (same : SameTest l f g) where
   pub same_touches : (w : Wire) → WireNamed l w → touches f w ≡ touches g (wire_renamed l w)
@@ -120,19 +112,16 @@ module _ (l : List Naming) (f g : Place → Bool) (same : SameTest l f g) where
   unfolding far_from
   far_renamed_lem [] h = refl
   far_renamed_lem (w ∷ ws) h =
-      go (f w.out) (g (place_renamed l w.out)) (same w.out (h w (inl refl)).0) (f w.into) (g (place_renamed l w.into)) (same w.into (h w (inl refl)).1)
-      (far_renamed_lem ws (λ v i. h v (inr i)))
+      let p = same w.out (h w (inl refl)).0 in
+      let q = same w.into (h w (inl refl)).1 in
+      rw (p, q) (go (g (place_renamed l w.out)) (g (place_renamed l w.into)) (far_renamed_lem ws (λ v i. h v (inr i))))
     where
-      go : (s t : Bool) → s ≡ t → (p q : Bool) → p ≡ q → far_renamed (far_from f ws) ≡ far_from g (renamed l ws) →
-          far_renamed (cond s (far w.into) (cond p (far w.out) (far_from f ws)))
-          ≡ cond t (far (place_renamed l w.into)) (cond q (far (place_renamed l w.out)) (far_from g (renamed l ws)))
-      go true true e p q u rest = refl
-      go false false e true true u rest = refl
-      go false false e false false u rest = rest
-      go false false e true false u rest = absurd (let z : ◌≡◌ {A = ℕ} 0 1 = cc in omega arith)
-      go false false e false true u rest = absurd (let z : ◌≡◌ {A = ℕ} 0 1 = cc in omega arith)
-      go true false e p q u rest = absurd (let z : ◌≡◌ {A = ℕ} 0 1 = cc in omega arith)
-      go false true e p q u rest = absurd (let z : ◌≡◌ {A = ℕ} 0 1 = cc in omega arith)
+      go : (s t : Bool) → far_renamed (far_from f ws) ≡ far_from g (renamed l ws) →
+          far_renamed (cond s (far w.into) (cond t (far w.out) (far_from f ws)))
+          ≡ cond s (far (place_renamed l w.into)) (cond t (far (place_renamed l w.out)) (far_from g (renamed l ws)))
+      go true t rest = refl
+      go false true rest = refl
+      go false false rest = rest
 
 module _ (l : List Naming) (r : Rising Apart l) where
   -- the lowest unwired offset is the same
@@ -148,7 +137,7 @@ module _ (l : List Naming) (r : Rising Apart l) where
   pub next_renamed : (n k : ℕ) → Member (naming n k) l → (d : Direction) (i : ℕ) (ws : List Wire) → AllNamed l ws →
       next_offset ws (spot n d i) ≡ next_offset (renamed l ws) (spot k d i)
   next_renamed n k a d i ws h =
-      lowest_renamed n k a d i ws h 0 (length ws) ∙ ap (lowest_unwired (renamed l ws) (spot k d i) 0) (sym (length_map (wire_renamed l) ws))
+      lowest_renamed n k a d i ws h 0 (length ws) ∙ ap (lowest_unwired (renamed l ws) (spot k d i) 0) (sym (length-map ws (wire_renamed l)))
 
   -- different wires have different names
   place_back : (x y : Place) → HasName l x.node → HasName l y.node → place_renamed l x ≡ place_renamed l y → x ≡ y
@@ -174,15 +163,11 @@ module _ (l : List Naming) (r : Rising Apart l) where
 
 -- Other names of the same nodes.
 
-pub map_same : (f g : Wire → Wire) (ws : List Wire) → ((w : Wire) → Member w ws → f w ≡ g w) → map f ws ≡ map g ws
-map_same f g [] h = refl
-map_same f g (w ∷ ws) h = let p = h w (inl refl) in let q = map_same f g ws (λ v i. h v (inr i)) in λ i. p i ∷ q i
-
 -- wires whose nodes have the same names in two lists of names
 pub renamed_same : (l k : List Naming) (ws : List Wire) → ((w : Wire) → Member w ws → (name_of k w.out.node ≡ name_of l w.out.node) × (name_of k w.into.node ≡ name_of l w.into.node)) →
     renamed k ws ≡ renamed l ws
 renamed_same l k ws h =
-    map_same (wire_renamed k) (wire_renamed l) ws
+    map_same_on (wire_renamed k) (wire_renamed l) ws
     (λ w i. let s = h w i in λ j.
     record {
       out = record { node = s.0 j; side = w.out.side; pos = w.out.pos; offset = w.out.offset };

@@ -2,15 +2,13 @@
 -- is meant by one of the engine. So the histories that are spoken of leave out no other call of either.
 use Rattle.std.specs.Prelude.{◌≡◌, Bool, ℕ, ◌<◌}
 use Rattle.std.proofs.Math.Path.{refl, subst}
-use Rattle.std.proofs.Common.{sym, ◌∙◌, ap, arith, ltb-true}
+use Rattle.std.proofs.Common.{sym, ◌∙◌, arith, ltb-true}
 use Rattle.std.proofs.Math.Bool.{true, false}
 use Rattle.port_tables.specs.Limits.{node_slots, port_slots}
 use Rattle.port_tables.specs.Lists.{Member}
 use Rattle.port_tables.specs.Entries.{ports_on}
-use Rattle.portgraph.specs.Lookups.{is_some}
 use Rattle.portgraph.specs.Model.{Model, Slots, gone, live, slot_of, count_of}
 use Rattle.portgraph.specs.GoodSlots.{slot_in_range, node_below}
-use Rattle.portgraph.specs.PlaceLaws.{gone_has_no_meta}
 use Rattle.port_tables.specs.declared.direction.Direction.TheVariants.{Incoming}
 use Rattle.multiportgraph.specs.Ends.{block_seen, seen_dead}
 use Rattle.multiportgraph.specs.HiddenStays.{true_not_false}
@@ -20,7 +18,7 @@ use Rattle.multi_tables.specs.Forms.{Port, dead, hidden, visible}
 use Rattle.multiportgraph.specs.declared.multiportgraph.MultiPortGraph.{MultiPortGraph}
 use Rattle.theorems.specs.Book as book
 use Rattle.theorems.specs.Book.{Call, spot_of}
-use Rattle.theorems.proofs.WireRule.{spot_of_lem}
+use Rattle.theorems.proofs.WireRule.{spot_of_lem, spot_at}
 use Rattle.sketches.specs.Plan.{has_block, ports_on_side, is_there}
 use Rattle.sketches.specs.declared.sketch.SketchPort.{SketchPort}
 use Rattle.agreement.specs.Meaning.{PlanCall, add_plan, remove_plan, set_plan, link_plan, link_clean_plan, link_sub_plan, cut_plan, cut_sub_plan, tidy_plan, Both, PortMeans, same_port, no_port, BlockMeans, same_block, no_block, Means, means_add, means_remove, means_set, means_link, means_link_clean, means_link_sub, means_cut, means_cut_sub, means_tidy}
@@ -30,6 +28,7 @@ use Rattle.agreement.specs.Names.{naming}
 use Rattle.agreement.specs.Standing.{block_here, block_had, block_name, seen_name}
 use Rattle.agreement.specs.AddSquare.{there_of_block, block_given}
 use Rattle.std.proofs.lemmas.Bool.{false_from_ne_true}
+use Rattle.theorems.specs.PortCases.{gone_unless, gone_not_contained}
 
 module _ {b : Both} {M : Model} (a : Alike b M) where
   abbrev m : MultiPortGraph
@@ -63,14 +62,14 @@ module _ {b : Both} {M : Model} (a : Alike b M) where
           let c = block_seen a.rel.fine p n d e in
           let k = seen_name a c.place c.is_seen in (
             record { block = k.0; side = c.place.side; position = c.place.pos },
-            same_port c.place.node (ap (spot_of b.kit.book.blocks) (sym c.slot) ∙ spot_of_lem a.rel c.place c.is_seen) k.1,
+            same_port c.place.node (spot_at a.rel c.place c.is_seen p c.slot) k.1,
           )
 
   block_partner : (n : ℕ) → NoneHidden m n → (k : ℕ) × BlockMeans b n k
   block_partner n h = go (M.node n) refl
     where
       go : (v : Slots) → M.node n ≡ v → (k : ℕ) × BlockMeans b n k
-      go gone e = (b.plan.adds, no_block (ap is_some (gone_has_no_meta a.rel.fine.good a.rel.fine.holds n e)) fresh)
+      go gone e = (b.plan.adds, no_block (gone_not_contained a.rel.fine n e) fresh)
       go (live c) e =
           let shown : is_hidden m n ≡ false = false_from_ne_true (is_hidden m n) h in
           let k = block_name a n c (shown, e) in
@@ -94,11 +93,7 @@ module _ {b : Both} {M : Model} (a : Alike b M) where
   dead_past = seen_dead a.rel.fine port_slots (λ y v e. let r = slot_in_range a.rel.fine.good y v in omega arith)
 
   gone_past : M.node node_slots ≡ gone
-  gone_past = go (M.node node_slots) refl
-    where
-      go : (v : Slots) → M.node node_slots ≡ v → M.node node_slots ≡ gone
-      go gone e = e
-      go (live c) e = let u = node_below a.rel.fine.good node_slots c e in absurd (omega arith)
+  gone_past = gone_unless (M.node node_slots) (λ c e. let u = node_below a.rel.fine.good node_slots c e in omega arith)
 
   port_meant_by : (x : SketchPort) → (p : ℕ) × PortMeans b p x
   unfolding is_there
@@ -119,7 +114,7 @@ module _ {b : Both} {M : Model} (a : Alike b M) where
   block_meant_by k = go (has_block b.plan.blocks k) refl
     where
       go : (t : Bool) → has_block b.plan.blocks k ≡ t → (n : ℕ) × BlockMeans b n k
-      go false e = (node_slots, no_block (ap is_some (gone_has_no_meta a.rel.fine.good a.rel.fine.holds node_slots gone_past)) e)
+      go false e = (node_slots, no_block (gone_not_contained a.rel.fine node_slots gone_past) e)
       go true e =
           let c = block_had b.plan.blocks k e in
           let n = a.plan_named c.0 c.1 in

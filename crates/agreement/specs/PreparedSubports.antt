@@ -3,7 +3,7 @@
 use Rattle.theorems.specs.Pairs.{ok_pair}
 use Rattle.std.proofs.Math.Path.{◌≡◌, refl, sym, ap, subst}
 use Rattle.std.proofs.Common.{◌∙◌}
-use Rattle.std.specs.Prelude.{Bool, List, ◌⊎◌, leb, Some, Result, Ok, Err}
+use Rattle.std.specs.Prelude.{Bool, ◌⊎◌, leb, Some, Result, Ok, Err}
 use Rattle.std.proofs.Math.Bool.{true, false, cond}
 use Rattle.std.proofs.Math.Logic.{inl, inr}
 use Prim.Native.Nat.{ℕ, suc, ◌+◌, ◌<◌}
@@ -26,13 +26,12 @@ use Rattle.port_tables.specs.declared.direction.Direction.{Direction}
 use Rattle.port_tables.specs.declared.index.NodeIndex.{NodeIndex}
 use Rattle.port_tables.specs.declared.index.PortIndex.{PortIndex}
 use Rattle.port_tables.specs.declared.node_entry.NodeMeta.{NodeMeta}
-use Rattle.port_tables.specs.declared.node_entry.NodeSlot.{NodeSlot}
 use Rattle.portgraph.specs.declared.portgraph.PortGraph.{PortGraph}
 use Rattle.portgraph.specs.declared.alloc.NodeAdded.{NodeAdded}
 use Rattle.multiportgraph.specs.Reading.{is_hidden, is_split, has_link, port_of, port_number, copy_node, subports}
 use Rattle.multiportgraph.specs.WellFormed.{inner#, copy_place, Fine, Seen, lift, IsEnd}
 use Rattle.multiportgraph.specs.Graph.{with_graph}
-use Rattle.multiportgraph.specs.Ends.{Hangs, split_has_copy, one_copy, count_of_lem, port_of_lem, linked_is, unlinked_is, lift_place, outer_of_subport, outer_of_block}
+use Rattle.multiportgraph.specs.Ends.{Hangs, split_has_copy, one_copy, count_of_lem, port_of_lem, linked_is, unlinked_is, lift_place, outer_of_subport, outer_of_block, seen_still}
 use Rattle.multiportgraph.specs.Needs.{need_of, copy_need}
 use Rattle.multiportgraph.specs.SplitLaws.{PreparedEnd, split_tables, two_subports}
 use Rattle.multiportgraph.specs.RecountLaws.{set_recounts, growth#, grown, more_longer}
@@ -42,8 +41,7 @@ use Rattle.multiportgraph.specs.declared.multiportgraph.MultiPortGraph.{MultiPor
 use Rattle.multiportgraph.specs.declared.needs.Need.TheVariants as need
 use Rattle.sketches.specs.Plan.{subports_ready}
 use Rattle.agreement.specs.Alike.{subports_at}
-use Rattle.agreement.specs.KeptSplits.{split_kept, same_subports}
-use Rattle.agreement.specs.Carry.{seen_still, slot_still}
+use Rattle.agreement.specs.KeptSplits.{split_kept, same_subports, nodes_by_table, copies_apart}
 use Rattle.portgraph.specs.declared.alloc.AddError.{AddError}
 use Rattle.portgraph.specs.declared.resize.SetError.{SetError}
 use Rattle.portgraph.specs.declared.alloc.AddError.TheVariants as add_error
@@ -91,10 +89,6 @@ module _ {g : PortGraph} {M : Model} (good : Good M) (holds : Holds g M) (i o : 
       go true true false p q r c first e = absurd (zero_is_not_one (cc))
       go true false block p q r c first e = absurd (zero_is_not_one (cc))
       go false slot block p q r c first e = absurd (zero_is_not_one (cc))
-
--- graphs with one node table have the same nodes
-nodes_by_table : {g h : PortGraph} {M N : Model} → Holds g M → Holds h N → g.node_meta ≡ h.node_meta → (n : ℕ) → N.node n ≡ M.node n
-nodes_by_table a b e n = sym (b.nodes n) ∙ (ap (λ (l : List NodeSlot). slots_at l n) (sym e) ∙ a.nodes n)
 
 -- What a port's end needs tells whether it is split, and on which hidden node.
 
@@ -183,10 +177,10 @@ module _ {m : MultiPortGraph} {M : Model} {x : model.InnerPlace} {m' : MultiPort
   -- a port whose hidden node stays has as many subports as before
   module _ (v : model.InnerPlace) (sv : Seen m M v) (other : v ≡ x → ⊥) (kept : (h : Hangs m M v) → M'.node h.copy ≡ M.node h.copy) where
     still : slot_of M'.node v ≡ slot_of M.node v
-    still = slot_still f p.fine p.blocks v sv
+    still = (seen_still f p.fine p.blocks v sv).1
 
     sv' : Seen m' M' v
-    sv' = seen_still f p.fine p.blocks v sv
+    sv' = (seen_still f p.fine p.blocks v sv).0
 
     same_need : need_of m' (slot_of M'.node v) v.side ≡ need_of m (slot_of M.node v) v.side
     same_need = ap (λ (s : ℕ). need_of m' s v.side) still ∙ p.others v sv other
@@ -261,7 +255,7 @@ module _ {m : MultiPortGraph} {M : Model} {x : model.InnerPlace} {m' : MultiPort
     here_changed : subports_at m' M' x ≡ suc o
     here_changed =
         let t = p.fine.main_marked c.node x hangs_there.1 hangs_there.0 in
-        let h = split_has_copy p.fine x (seen_still f p.fine p.blocks x sx) t in
+        let h = split_has_copy p.fine x (seen_still f p.fine p.blocks x sx).0 t in
         let n : h.copy ≡ c.node = one_copy p.fine h.copy c.node x h.from hangs_there.0 in
         split_subports m' M' x t h ∙ (ap (λ (i : ℕ). count_of (M'.node i) x.side) n ∙ c.count)
 
@@ -348,7 +342,7 @@ module _ {m : MultiPortGraph} {M : Model} (f : Fine m M) (x : model.InnerPlace) 
             count = ap (λ (v : Slots). count_of v x.side) (nodes h.copy) ∙ there;
             slot = slot_of_port r.good r.holds h.copy o (omega arith) (nodes h.copy) ∙ (ap (port_of g h.copy x.side) (sym e3) ∙ e2);
             later = omega arith;
-            apart = λ v n k z. n (let a = k.from in let b = h.from in let d = ap (λ (i : ℕ). M.join (copy_place m i)) z in cc);
+            apart = λ v n k z. copies_apart h k n z;
             more = ready_more (subports_at m M x) o (subst (λ (i : ℕ). 0 < i) (sym (split_subports m M x t h)) (omega arith)) (split_subports m M x t h ∙ (sym was ∙ e3));
           }
 

@@ -1,26 +1,24 @@
 -- The removal of a block leaves the ports of other blocks as split as they were: its split ports lose their hidden nodes one by one, then the node goes.
 use Rattle.std.specs.Prelude.{◌≡◌, refl, Bool, true, false, ℕ, zero, suc, ◌+◌, ◌≤◌}
-use Rattle.std.proofs.Common.{sym, ◌∙◌, ap, subst, arith, ne_eqb}
-use Rattle.portgraph.specs.Meaning.{remove_model, at_node}
+use Rattle.std.proofs.Common.{sym, ◌∙◌, ap, subst, arith}
+use Rattle.portgraph.specs.Meaning.{remove_model}
 use Rattle.portgraph.specs.Model as model
 use Rattle.portgraph.specs.Model.{Model, to, Slots, gone, live, Valid, slot_of, count_of, first_of, side_start}
 use Rattle.portgraph.specs.Calls.{remove_node}
-use Rattle.portgraph.specs.Sums.{drop_kept, upd_other}
-use Rattle.portgraph.specs.GoodLaws.{good_remove}
+use Rattle.portgraph.specs.Sums.{upd_other}
 use Rattle.port_tables.specs.declared.node_entry.NodeMeta.{NodeMeta}
 use Rattle.multiportgraph.specs.Calls.{drop_block}
 use Rattle.multiportgraph.specs.WellFormed.{copy_place, Fine, BlockIs, Seen, SameBlocks}
-use Rattle.multiportgraph.specs.Ends.{main_seen, split_has_copy}
-use Rattle.multiportgraph.specs.HiddenStays.{plain_frame, frame_fine, hidden_below, split_below, true_not_false, same_slot}
-use Rattle.multiportgraph.specs.CopyLaws.{copy_goes, unsplit_split, removed_holds}
+use Rattle.multiportgraph.specs.Ends.{split_has_copy, seen_still}
+use Rattle.multiportgraph.specs.HiddenStays.{frame_fine, hidden_below, split_below, same_slot}
+use Rattle.multiportgraph.specs.CopyLaws.{copy_goes, unsplit_split}
 use Rattle.multiportgraph.specs.Graph.{with_graph}
 use Rattle.multiportgraph.specs.HiddenNodes.{remove_copy, unsplit, unsplit_range}
-use Rattle.multiportgraph.specs.Reading.{is_hidden, is_split}
+use Rattle.multiportgraph.specs.Reading.{is_split}
 use Rattle.multiportgraph.specs.declared.multiportgraph.MultiPortGraph.{MultiPortGraph}
-use Rattle.theorems.specs.RemoveLaws.{port_of_block, range_passed, block_unsplit}
+use Rattle.theorems.specs.RemoveLaws.{port_of_block, range_passed, block_unsplit, hidden_is_other, stays_joined, node_frame}
 use Rattle.agreement.specs.Alike.{subports_at}
 use Rattle.agreement.specs.KeptSplits.{split_kept, same_subports}
-use Rattle.agreement.specs.Carry.{seen_still}
 use Rattle.agreement.specs.CutSquares.{copy_keeps_splits}
 use Rattle.multiportgraph.specs.CopySteps.{unsplit_plain}
 
@@ -54,29 +52,15 @@ range_splits (suc j) {m} {M} f n k b p low high =
           r.1,
           ((λ i l c. r.2.0 i l (g.blocks.0 i l c)), λ i l c. g.blocks.1 i l (r.2.1 i l c)),
           λ y s other.
-              r.3 y (seen_still f g.fine g.blocks y s) other
+              r.3 y (seen_still f g.fine g.blocks y s).0 other
               ∙ same_subports m M _ U y (copy_keeps_splits f x.0 h y s (λ q. other (ap (λ (v : model.InnerPlace). v.node) q ∙ x.3))),
         )
 
 -- a block without split ports goes
 module _ {m : MultiPortGraph} {M : Model} (f : Fine m M) (n : ℕ) (k : NodeMeta) (b : BlockIs m M n k)
     (whole : (z : model.InnerPlace) → Valid M.node z → z.node ≡ n → is_split m (slot_of M.node z) ≡ false) where
-  hidden_other : (c : ℕ) → is_hidden m c ≡ true → c ≡ n → ⊥
-  hidden_other c h e = true_not_false h (ap (is_hidden m) e ∙ b.0)
-
-  main_other : (c : ℕ) (x : model.InnerPlace) → is_hidden m c ≡ true → M.join (copy_place m c) ≡ to x → x.node ≡ n → ⊥
-  main_other c x h j e = true_not_false (f.main_marked c x h j) (whole x (main_seen f c x h j).0 e)
-
   pub node_gone : Fine (with_graph m (remove_node m.graph n).graph) (remove_model M n k)
-  node_gone =
-      frame_fine f
-      (plain_frame f (good_remove f.good n k b.1) (removed_holds f.good f.holds n k b.1)
-      (λ c h. upd_other M.node n gone c (hidden_other c h))
-      (λ c x h j. upd_other M.node n gone x.node (main_other c x h j))
-      (λ c h.
-      let i = f.copy c h in
-      drop_kept (at_node n) M.join (copy_place m c) i.main i.joined (ne_eqb c n (hidden_other c h)) (ne_eqb i.main.node n (main_other c i.main h i.joined))
-      ∙ sym i.joined))
+  node_gone = frame_fine f (node_frame f n k b whole)
 
   pub node_gone_splits : Others m M (with_graph m (remove_node m.graph n).graph) (remove_model M n k) n
   node_gone_splits y s other =
@@ -84,8 +68,8 @@ module _ {m : MultiPortGraph} {M : Model} (f : Fine m M) (n : ℕ) (k : NodeMeta
       (split_kept f node_gone y s
       (λ h. (
         hidden_below m _ h.copy ∙ h.is_copy,
-        upd_other M.node n gone h.copy (hidden_other h.copy h.is_copy),
-        drop_kept (at_node n) M.join y (copy_place m h.copy) h.back (ne_eqb y.node n other) (ne_eqb h.copy n (hidden_other h.copy h.is_copy)),
+        upd_other M.node n gone h.copy (hidden_is_other f n k b whole h.copy h.is_copy),
+        stays_joined f n k b whole y (copy_place m h.copy) h.back other (hidden_is_other f n k b whole h.copy h.is_copy),
       ))
       (λ e. split_below m _ _ ∙ (ap (is_split m) (same_slot M (remove_model M n k) y (upd_other M.node n gone y.node other)) ∙ e)))
 
@@ -100,7 +84,7 @@ removal_splits {m} {M} f n k b =
     let w = block_unsplit k r.0 t.1 c in (
       remove_model r.0 n k,
       node_gone r.1 n k c w,
-      λ y s other. node_gone_splits r.1 n k c w y (seen_still f r.1 r.2 y s) other ∙ r.3 y s other,
+      λ y s other. node_gone_splits r.1 n k c w y (seen_still f r.1 r.2 y s).0 other ∙ r.3 y s other,
     )
   where
     passed : MultiPortGraph

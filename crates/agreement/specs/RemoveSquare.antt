@@ -9,10 +9,7 @@ use Rattle.port_tables.specs.Lists.{Member}
 use Rattle.std.specs.List.{filter}
 use Rattle.portgraph.specs.Model as model
 use Rattle.portgraph.specs.Model.{Model, Slots, count_of}
-use Rattle.portgraph.specs.PlaceLaws.{meta_of_node}
 use Rattle.multiportgraph.specs.Calls.{remove_block, drop_block}
-use Rattle.multiportgraph.specs.Cases.{remove_meta}
-use Rattle.multiportgraph.specs.CaseLaws.{remove_cases}
 use Rattle.multiportgraph.specs.WellFormed.{Fine, Seen}
 use Rattle.port_tables.specs.Listing.{member_filter, filter_member, rising_filter}
 use Rattle.multiportgraph.specs.LinkCutLaws.{touched_not_out, touched_not_into, at_spot_is}
@@ -21,10 +18,10 @@ use Rattle.multiportgraph.specs.declared.multiportgraph.MultiPortGraph.{MultiPor
 use Rattle.multiportgraph.specs.declared.multiportgraph.NodeRemoved.{NodeRemoved}
 use Rattle.theorems.specs.Book as book
 use Rattle.theorems.specs.Book.{book_remove}
-use Rattle.theorems.specs.BookLaws.{not_so_true, stayed_wire}
+use Rattle.theorems.specs.BookLaws.{stayed_wire}
 use Rattle.theorems.specs.Conditions.{remove_unknown}
 use Rattle.theorems.proofs.ReleaseRuns.{step_keeps}
-use Rattle.theorems.proofs.RemoveCall.{remove_refuses}
+use Rattle.theorems.proofs.RemoveCall.{remove_refuses, remove_live}
 use Rattle.theorems.specs.RemoveLaws.{RemoveDone, drop_block_done}
 use Rattle.theorems.proofs.WireRule.{blocks_removed, wires_dropped, seen_live}
 use Rattle.sketches.specs.Plan.{Plan, PlanBlock, is_there, subports_among}
@@ -35,13 +32,14 @@ use Rattle.sketches.specs.PlanNumbers.{reason_number}
 use Rattle.agreement.specs.Meaning.{Naming, Both, BlockMeans, named_remove, means_remove}
 use Rattle.agreement.specs.Agreement.{RemoveAlike}
 use Rattle.agreement.specs.Alike.{Alike, Apart, OtherName, subports_at, name_of}
-use Rattle.agreement.specs.Square.{Square}
+use Rattle.agreement.specs.Square.{Square, squared}
 use Rattle.agreement.specs.Names.{naming, node_of_lem, one_name, same_node, renamed, renamed_same, without_renamed}
 use Rattle.agreement.specs.Standing.{BlockHere, BlockGone, block_meant, wires_named}
 use Rattle.agreement.specs.PlanLaws.{among_kept}
 use Rattle.agreement.specs.KeptSplits.{any_model}
 use Rattle.agreement.specs.RemoveSplits.{removal_splits}
 use Rattle.sketches.specs.declared.sketch.Reason.{Reason}
+use Rattle.std.proofs.lemmas.Bool.{not-true}
 
 -- a name that stays
 name_left : (l : List Naming) (n c : ℕ) → (c ≡ n → ⊥) → name_of (filter (λ (x : Naming). not (eqb x.node n)) l) c ≡ name_of l c
@@ -82,7 +80,7 @@ module _ {b : Both} {M : Model} (a : Alike b M) (n k : ℕ) where
       (others : (y : model.InnerPlace) → Seen m M y → (y.node ≡ n → ⊥) → subports_at g N y ≡ subports_at m M y) where
     -- a naming that is left, and its node and name
     left_name : (x : Naming) → Member x names_left → Member x b.names × (x.node ≡ n → ⊥)
-    left_name x i = let r = member_filter (λ (x : Naming). not (eqb x.node n)) x b.names i in (r.0, eqb-false x.node n (not_so_true _ r.1))
+    left_name x i = let r = member_filter (λ (x : Naming). not (eqb x.node n)) x b.names i in (r.0, eqb-false x.node n (not-true _ r.1))
 
     name_stays : (x : Naming) → Member x b.names → (x.node ≡ n → ⊥) → Member x names_left
     name_stays x i other = filter_member (λ (x : Naming). not (eqb x.node n)) x b.names i (ap not (ne_eqb x.node n other))
@@ -142,12 +140,12 @@ module _ {b : Both} {M : Model} (a : Alike b M) (n k : ℕ) where
           plan_named = λ p i.
               let r = member_filter (λ (b : PlanBlock). not (eqb b.name k)) p b.plan.blocks i in
               let x = a.plan_named p r.0 in
-              (x.0, name_stays x.0 x.1 (other_node x.0 x.1 (λ e. eqb-false p.name k (not_so_true _ r.1) (sym x.2 ∙ e))), x.2);
+              (x.0, name_stays x.0 x.1 (other_node x.0 x.1 (λ e. eqb-false p.name k (not-true _ r.1) (sym x.2 ∙ e))), x.2);
           plan_once = rising_filter OtherName (λ (b : PlanBlock). not (eqb b.name k)) b.plan.blocks a.plan_once;
           subports = subports;
           splits_there = λ s i.
               let r = member_filter (λ (s : Place). not (of_node k s)) s b.plan.splits i in
-              ap (ltb s.pos) (other_ports b.plan.blocks k s.node s.side (eqb-false s.node k (not_so_true _ r.1))) ∙ a.splits_there s r.0;
+              ap (ltb s.pos) (other_ports b.plan.blocks k s.node s.side (eqb-false s.node k (not-true _ r.1))) ∙ a.splits_there s r.0;
           wires = wires_left;
         }
 
@@ -161,12 +159,11 @@ module _ {b : Both} {M : Model} (a : Alike b M) (n k : ℕ) where
       here : BlockHere b M n k → Left (remove_block m n) (sketch.remove_block b.plan k)
       here h =
           let f = a.rel.fine in
-          let is : remove_block m n ≡ record { graph = drop_block m n h.meta; answer = Ok tt } =
-          remove_cases m n ∙ (ap (remove_meta m n) (meta_of_node f.good f.holds n h.meta h.block.1) ∙ rw h.block.0) in
+          let is : remove_block m n ≡ record { graph = drop_block m n h.meta; answer = Ok tt } = remove_live f n h.meta false h.block.0 h.block.1 in
           let d = drop_block_done f n h.meta h.block in
           let r = removal_splits f n h.meta h.block in
           let kept : (drop_block m n h.meta).release ≡ m.release = ap (λ (v : NodeRemoved). v.graph.release) (sym is) ∙ step_keeps m (book.remove_call n) in
           rw (is, h.there) (tt, (d.model, left_alike h (drop_block m n h.meta) kept d r.0 r.1 r.2))
 
 pub remove_square : {b : Both} {M : Model} (n k : ℕ) (means : BlockMeans b n k) → Square b M (means_remove n k means)
-remove_square {b} {M} n k means a room = let l = remove_left a n k means in record { answers = l.0; model = l.1.0; alike = l.1.1 }
+remove_square {b} {M} n k means a room = squared (remove_left a n k means)

@@ -1,6 +1,6 @@
 -- The square of a resize: the block has the counts named in both, wires and split ports at dropped positions go, a port that stays is as split as it was, and
 -- a new one is not split.
-use Rattle.std.proofs.lemmas.Bool.{cases_eq, false_from_ne_true}
+use Rattle.std.proofs.lemmas.Bool.{cases_eq, false_from_ne_true, not-true}
 use Rattle.std.specs.Prelude.{◌≡◌, Bool, cond, List, [], ◌∷◌, map, ◌⊎◌, ℕ, ◌+◌, ◌≤◌, ◌<◌, leb, take, drop, Result, Ok, Err}
 use Rattle.std.proofs.Math.Path.{refl, sym, ap, subst}
 use Rattle.std.proofs.Common.{◌∙◌, inl, inr, ⊎_elim}
@@ -24,15 +24,15 @@ use Rattle.portgraph.specs.declared.portgraph.PortGraph.{PortGraph}
 use Rattle.multiportgraph.specs.Calls.{set_counts, set_as}
 use Rattle.multiportgraph.specs.Cases.{resized, set_meta, set_refused}
 use Rattle.multiportgraph.specs.CaseLaws.{set_cases}
-use Rattle.multiportgraph.specs.Ends.{split_has_copy, ports_walked_lem}
+use Rattle.multiportgraph.specs.Ends.{ports_walked_lem}
 use Rattle.multiportgraph.specs.HiddenStays.{true_not_false}
 use Rattle.multiportgraph.specs.HiddenNodes.{recounted, copies_dropped, remove_all}
 use Rattle.multiportgraph.specs.WellFormed.{Fine, BlockIs, Seen}
 use Rattle.port_tables.specs.Listing.{member_filter, member_map, map_member, rising_map}
 use Rattle.multiportgraph.specs.LinkCutLaws.{at_spot_is}
 use Rattle.port_tables.specs.Places.{Place, spot, of_dropped, without}
-use Rattle.multiportgraph.specs.Reading.{is_hidden, is_split}
-use Rattle.multiportgraph.specs.RecountLaws.{Recount, SomeRecount, set_recounts, count_new}
+use Rattle.multiportgraph.specs.Reading.{is_hidden}
+use Rattle.multiportgraph.specs.RecountLaws.{SomeRecount, set_recounts, count_new, recount_of}
 use Rattle.multiportgraph.specs.SetLaws.{SetDone, set_counts_law, all_go, resize_loosens, resize_tracks}
 use Rattle.multiportgraph.specs.Wires.{ports_walked}
 use Rattle.multiportgraph.specs.declared.multiportgraph.MultiPortGraph.{MultiPortGraph}
@@ -41,7 +41,6 @@ use Rattle.multi_tables.specs.declared.answers.Refusal.{Refusal}
 use Rattle.multi_tables.specs.declared.answers.Refusal.TheVariants.{TooManyPorts, MovesTooShort, NoRoom}
 use Rattle.theorems.specs.Book as book
 use Rattle.theorems.specs.Book.{not_block, book_set}
-use Rattle.theorems.specs.BookLaws.{not_so_true}
 use Rattle.theorems.specs.Conditions.{SetRefused, set_many, set_gone, set_hidden, set_short, set_full}
 use Rattle.theorems.proofs.ReleaseRuns.{step_keeps}
 use Rattle.theorems.proofs.SetCall.{set_refuses, set_refused_lem}
@@ -54,11 +53,11 @@ use Rattle.sketches.specs.declared.sketch.Reason.TheVariants as reason
 use Rattle.agreement.specs.Meaning.{Naming, Both, BlockMeans, set_plan, means_set}
 use Rattle.agreement.specs.Agreement.{SetAlike, HasRoom}
 use Rattle.agreement.specs.Alike.{Alike, OtherName, subports_at}
-use Rattle.agreement.specs.Square.{Square, pair}
+use Rattle.agreement.specs.Square.{Square, pair, squared, as_both}
 use Rattle.agreement.specs.Names.{naming, node_of_lem, one_name, same_dropped, without_renamed}
 use Rattle.agreement.specs.Standing.{BlockHere, BlockGone, block_meant, wires_named}
 use Rattle.agreement.specs.PlanLaws.{among_kept, among_none}
-use Rattle.agreement.specs.KeptSplits.{any_model, same_subports}
+use Rattle.agreement.specs.KeptSplits.{any_model, same_subports, unlinked_whole, nodes_by_table}
 use Rattle.agreement.specs.AddSquare.{there_of_block}
 use Rattle.sketches.specs.declared.sketch.Reason.{Reason}
 use Rattle.portgraph.specs.declared.resize.SetError.TheVariants as set_error
@@ -79,16 +78,10 @@ module _ {m : MultiPortGraph} {M : Model} (f : Fine m M) (n i o room : ℕ) (k :
       none x e q = absurd (zero_is_not_one (cc))
 
       done : (g : PortGraph) → SomeRecount g M n i o → (N : Model) × Fine (remove_all (recounted m n g) (copies_dropped m k i o)) N × ((x y : model.InnerPlace) → N.join x ≡ to y → M.join x ≡ to y)
-      done g s = go s.old s.is.here s.is
-        where
-          go : (a : NodeMeta) → M.node n ≡ live a → Recount g M s.model' n a s.new i o →
-              (N : Model) × Fine (remove_all (recounted m n g) (copies_dropped m k i o)) N × ((x y : model.InnerPlace) → N.join x ≡ to y → M.join x ≡ to y)
-          go a there r =
-              let here = b.1 in
-              let same : a ≡ k = cc in
-              let r' : Recount g M s.model' n k s.new i o = subst (λ (c : NodeMeta). Recount g M s.model' n c s.new i o) same r in
-              let z = all_go (copies_dropped m k i o) (resize_loosens f n k b.0 b.1 i o r') (resize_tracks f n k b.0 b.1 i o r') in
-              (z.model', z.fine, z.tracks.was)
+      done g s =
+          let r = recount_of s k b.1 in
+          let z = all_go (copies_dropped m k i o) (resize_loosens f n k b.0 b.1 i o r) (resize_tracks f n k b.0 b.1 i o r) in
+          (z.model', z.fine, z.tracks.was)
 
       lower : (t : Result ℕ SetError) → (set_num_ports m.graph n i o room).answer ≡ t →
           JoinsWere (record { graph = resized m n k i o (set_num_ports m.graph n i o room).graph t; answer = set_as t })
@@ -136,7 +129,7 @@ side_set (p ∷ l) k i o c d e = go (eqb p.name k) (eqb p.name c) refl refl e (s
 not_dropped : (k i o : ℕ) (s : Place) → not (of_dropped k i o s) ≡ true → s.node ≡ k → s.pos < new_count i o s.side
 not_dropped k i o s t e =
     leb-false (new_count i o s.side) s.pos
-    (subst (λ (c : Bool). cond c (leb (new_count i o s.side) s.pos) false ≡ false) (eq-eqb s.node k e) (not_so_true (of_dropped k i o s) t))
+    (subst (λ (c : Bool). cond c (leb (new_count i o s.side) s.pos) false ≡ false) (eq-eqb s.node k e) (not-true (of_dropped k i o s) t))
 
 module _ {b : Both} {M : Model} (a : Alike b M) (n k i o : ℕ) where
   abbrev m : MultiPortGraph
@@ -193,12 +186,10 @@ module _ {b : Both} {M : Model} (a : Alike b M) (n k i o : ℕ) where
           ∙ sym (any_model g fine.holds d.fine.holds y ∙ whole)
         where
           s' : Seen g N y
-          s' = (subst (λ (v : Slots). y.pos < count_of v y.side) (sym (d.fine.holds.nodes y.node) ∙ fine.holds.nodes y.node) s.0, s.1)
+          s' = (subst (λ (v : Slots). y.pos < count_of v y.side) (nodes_by_table fine.holds d.fine.holds refl y.node) s.0, s.1)
 
           whole : subports_at g N y ≡ 0
-          whole =
-              rw (false_from_ne_true (is_split g (slot_of N.node y))
-              (λ t. let c = split_has_copy fine y s' t in invalid (a.rel.fine.good.join_valid y _ (were y _ c.back)))) refl
+          whole = unlinked_whole fine y s' (λ z j. invalid (a.rel.fine.good.join_valid y z (were y z j)))
 
       at_block : y.node ≡ n → Counted
       at_block q =
@@ -332,25 +323,22 @@ module _ {b : Both} {M : Model} (a : Alike b M) (n k i o : ℕ) where
   unfolding reason_number
   set_left room means space = go (leb (i + o) node_ports) (ltb port_slots (ports_in_all (map (recount k i o) b.plan.blocks))) (set_counts m n i o room).answer refl refl refl (block_meant a n k means)
     where
-      both : {w : PortsSet} {v : Sketched (Result (Unit {0}) Reason)} → set_counts m n i o room ≡ w → sketch.set_counts b.plan k i o ≡ v → Left w v → Left (set_counts m n i o room) (sketch.set_counts b.plan k i o)
-      both {w} {v} p q l = subst (λ (u : PortsSet). Left u (sketch.set_counts b.plan k i o)) (sym p) (subst (Left w) (sym q) l)
-
       answered : (v : Result ℕ Refusal) → (set_counts m n i o room).answer ≡ v → set_counts m n i o room ≡ record { graph = (set_counts m n i o room).graph; answer = v }
       answered v e = λ t. record { graph = (set_counts m n i o room).graph; answer = e t }
 
       go : (x z : Bool) (v : Result ℕ Refusal) → leb (i + o) node_ports ≡ x → ltb port_slots (ports_in_all (map (recount k i o) b.plan.blocks)) ≡ z → (set_counts m n i o room).answer ≡ v →
           BlockHere b M n k ⊎ BlockGone b M n k → Left (set_counts m n i o room) (sketch.set_counts b.plan k i o)
-      go false z v p q e c = both (set_refuses a.rel.fine n i o room _ (set_many (leb-false _ _ p))) (plan_is false _ z p refl q) ((_, refl), (M, a))
+      go false z v p q e c = as_both Left _ (set_refuses a.rel.fine n i o room _ (set_many (leb-false _ _ p))) (plan_is false _ z p refl q) ((_, refl), (M, a))
       go true z v p q e (inr c) =
-          both (set_refuses a.rel.fine n i o room _ (set_gone (leb-true _ _ p) c.0)) (plan_is true false z p c.1 q) ((_, refl), (M, a))
+          as_both Left _ (set_refuses a.rel.fine n i o room _ (set_gone (leb-true _ _ p) c.0)) (plan_is true false z p c.1 q) ((_, refl), (M, a))
       go true z (Err r) p q e (inl h) = absurd (refused_not room (leb-true (i + o) node_ports p) h r space.moves space.kit e (set_refused_lem a.rel.fine n i o room r e))
       go true true (Ok c) p q e (inl h) = absurd (space.sketched (ap (λ (v : Sketched (Result (Unit {0}) Reason)). v.answer) (plan_is true true true p h.there q)))
       go true false (Ok c) p q e (inl h) =
           let f = a.rel.fine in
           let w = joins_were f n i o room h.meta h.block c e in
           let d = set_counts_law f n i o room c e in
-          both (answered (Ok c) e) (plan_is true true false p h.there q)
+          as_both Left _ (answered (Ok c) e) (plan_is true true false p h.there q)
           (tt, (d.model', set_alike h (set_counts m n i o room).graph (step_keeps m (book.set_call n i o room)) d w.0 w.1 w.2 c))
 
 pub set_square : {b : Both} {M : Model} (n k i o room : ℕ) (means : BlockMeans b n k) → Square b M (means_set n k i o room means)
-set_square {b} {M} n k i o room means a space = let l = set_left a n k i o room means space in record { answers = l.0; model = l.1.0; alike = l.1.1 }
+set_square {b} {M} n k i o room means a space = squared (set_left a n k i o room means space)

@@ -1,6 +1,7 @@
 -- Space: a sketch that is alike has at most 1,024 blocks, 3,072 ports of blocks and 1,536 wires, so where the engine does not refuse a call for space the
 -- sketch does not either, but for the count of adds.
-use Rattle.std.specs.Prelude.{◌≡◌, not, ◌||◌, List, [], ◌∷◌, map, ◌⊎◌, ℕ, ◌+◌, ◌*◌, ◌≤◌, ◌<◌, eqb, length, Option, Some, Result, Ok, Err}
+use Rattle.std.proofs.lemmas.List.{length-map}
+use Rattle.std.specs.Prelude.{◌≡◌, not, ◌||◌, List, [], ◌∷◌, map, ◌⊎◌, ℕ, ◌+◌, ◌*◌, ◌≤◌, ◌<◌, eqb, length, Option, Result, Ok, Err}
 use Rattle.std.proofs.Math.Path.{refl}
 use Rattle.std.proofs.Common.{sym, ◌∙◌, ap, subst, inl, inr, ⊎_elim, arith, leb-true, le-ltb}
 use Rattle.std.proofs.Math.Bool.{Bool, true, false, cond}
@@ -15,7 +16,7 @@ use Rattle.portgraph.specs.GoodSlots.{zero_is_not_one, slots_apart, slot_in_rang
 use Rattle.port_tables.specs.declared.direction.Direction.TheVariants.{Outgoing}
 use Rattle.multiportgraph.specs.CountLaws.{visible_nodes_lem}
 use Rattle.multiportgraph.specs.WellFormed.{Fine, WireIn, outer}
-use Rattle.port_tables.specs.Listing.{Apart, apart_below, member_filter, member_range, length_map}
+use Rattle.port_tables.specs.Listing.{Apart, apart_below, member_filter, member_range}
 use Rattle.port_tables.specs.Places.{Wire, at_spot, at_end}
 use Rattle.multiportgraph.specs.Reading.{seen}
 use Rattle.multiportgraph.specs.Walks.{all_ports, is_seen}
@@ -26,7 +27,7 @@ use Rattle.theorems.specs.Book.{Call}
 use Rattle.theorems.specs.Conditions.{RefusedBy}
 use Rattle.theorems.specs.History.{step}
 use Rattle.theorems.proofs.PortListing.{ascending_lists, visible_ports_ascending}
-use Rattle.sketches.specs.Plan.{Plan, has_block, ports_in_all, is_there, subports_of, lacks_offset, input_taken, Far, nothing, far, far_from, spot_named, offset_read, ready}
+use Rattle.sketches.specs.Plan.{Plan, has_block, ports_in_all, is_there, subports_of, lacks_offset, input_taken, Far, nothing, far, far_from, spot_named, offset_read}
 use Rattle.sketches.specs.PlanCalls as sketch
 use Rattle.sketches.specs.PlanCalls.{Sketched, leaves, most_adds, is_full, is_wired, bad_offset, recount, port_found, end_found}
 use Rattle.sketches.specs.declared.sketch.SketchPort.{SketchPort}
@@ -42,6 +43,7 @@ use Rattle.sketches.specs.declared.sketch.Reason.{Reason}
 use Rattle.sketches.specs.declared.sketch.SketchEnd.{SketchEnd}
 use Rattle.portgraph.specs.Joins.{to_same}
 use Rattle.multiportgraph.specs.WalkRule.{blocks_are_few}
+use Rattle.agreement.specs.PlanLaws.{either_way}
 
 -- How much there can be.
 
@@ -125,7 +127,7 @@ module _ {b : Both} {M : Model} (a : Alike b M) where
 
   pub few_wires : 2 * length b.plan.wires ≤ port_slots
   few_wires =
-      let e : length b.plan.wires ≡ length b.kit.book.wires = ap length a.wires ∙ length_map (wire_renamed b.names) b.kit.book.wires in
+      let e : length b.plan.wires ≡ length b.kit.book.wires = ap length a.wires ∙ length-map b.kit.book.wires (wire_renamed b.names) in
       let n = wires_few a.rel.fine b.kit.book.wires a.rel.wires.once a.rel.wires.booked in
       omega arith
 
@@ -134,85 +136,67 @@ module _ {b : Both} {M : Model} (a : Alike b M) where
 
 -- The calls of the sketch, where there is room for wires.
 
--- an answer that is no refusal
-abbrev Linked : Sketched (Result (SketchEnd × SketchEnd) Reason) → Type 0
-Linked v = v.answer ≡ Err reason.NoRoom → ⊥
+-- an answer that does not refuse for space
+abbrev Fits : {A : Type 0} → Sketched (Result A Reason) → Type 0
+Fits v = v.answer ≡ Err reason.NoRoom → ⊥
 
 module _ (K : Plan) where
   links_fit : is_full K ≡ false → (x y : SketchPort) → (sketch.link_ports K x y).answer ≡ Err reason.NoRoom → ⊥
   unfolding sketch.link_ports
-  links_fit room x y = rw room (go (is_there K x) (input_taken K x y) (is_there K y) (same_side x.side y.side))
-    where
-      go : (c d e g : Bool) →
-          (cond {A = Sketched (Result (SketchEnd × SketchEnd) Reason)} (not c) (leaves K (Err reason.UnknownPort)) (cond d (leaves K (Err reason.InputWired)) (cond (not e) (leaves (ready K x) (Err reason.UnknownSecondPort))
-          (cond g (leaves (ready (ready K x) y) (Err reason.SameSide)) (sketch.both_linked K x y))))).answer ≡ Err reason.NoRoom → ⊥
-      go false d e g q = zero_is_not_one (cc)
-      go true true e g q = zero_is_not_one (cc)
-      go true false false g q = zero_is_not_one (cc)
-      go true false true true q = zero_is_not_one (cc)
-      go true false true false q = zero_is_not_one (cc)
+  links_fit room x y =
+      rw room
+      (either_way Fits (not (is_there K x)) (λ q. zero_is_not_one (cc))
+      (either_way Fits (input_taken K x y) (λ q. zero_is_not_one (cc))
+      (either_way Fits (not (is_there K y)) (λ q. zero_is_not_one (cc)) (either_way Fits (same_side x.side y.side) (λ q. zero_is_not_one (cc)) (λ q. zero_is_not_one (cc))))))
 
   clean_fits : is_full K ≡ false → (x y : SketchPort) → (sketch.link_clean K x y).answer ≡ Err reason.NoRoom → ⊥
   unfolding sketch.link_clean
-  clean_fits room x y = rw room (go (is_there K x) (input_taken K x y) (is_there K y) (same_side x.side y.side))
-    where
-      go : (c d e g : Bool) →
-          (cond {A = Sketched (Result (SketchEnd × SketchEnd) Reason)} (not c) (leaves K (Err reason.UnknownPort)) (cond d (leaves K (Err reason.InputWired)) (cond (not e) (leaves K (Err reason.UnknownSecondPort))
-          (cond g (leaves K (Err reason.SameSide)) (sketch.both_linked K x y))))).answer ≡ Err reason.NoRoom → ⊥
-      go false d e g q = zero_is_not_one (cc)
-      go true true e g q = zero_is_not_one (cc)
-      go true false false g q = zero_is_not_one (cc)
-      go true false true true q = zero_is_not_one (cc)
-      go true false true false q = zero_is_not_one (cc)
+  clean_fits room x y =
+      rw room
+      (either_way Fits (not (is_there K x)) (λ q. zero_is_not_one (cc))
+      (either_way Fits (input_taken K x y) (λ q. zero_is_not_one (cc))
+      (either_way Fits (not (is_there K y)) (λ q. zero_is_not_one (cc)) (either_way Fits (same_side x.side y.side) (λ q. zero_is_not_one (cc)) (λ q. zero_is_not_one (cc))))))
 
   subports_fit : is_full K ≡ false → (x : SketchPort) (o : ℕ) (y : SketchPort) (r : ℕ) → (sketch.link_subports K x o y r).answer ≡ Err reason.NoRoom → ⊥
   unfolding sketch.link_subports
   subports_fit room x o y r =
       rw room
-      (go (bad_offset o || bad_offset r) (is_there K x) (lacks_offset K x o || cond (is_there K y) (lacks_offset K y r) false) (input_taken K x y) (is_there K y) (same_side x.side y.side) (is_wired K x o || is_wired K y r) _ (λ q. zero_is_not_one (cc)))
-    where
-      go : (a b c d e g h : Bool) (v : Sketched (Result (SketchEnd × SketchEnd) Reason)) → Linked v →
-          (cond {A = Sketched (Result (SketchEnd × SketchEnd) Reason)} a (leaves K (Err reason.BadOffset)) (cond (not b) (leaves K (Err reason.UnknownPort)) (cond c (leaves K (Err reason.UnknownOffset))
-          (cond d (leaves K (Err reason.InputWired)) (cond (not e) (leaves K (Err reason.UnknownSecondPort)) (cond g (leaves K (Err reason.SameSide))
-          (cond h (leaves K (Err reason.AlreadyLinked)) v))))))).answer ≡ Err reason.NoRoom → ⊥
-      go true b c d e g h v l q = zero_is_not_one (cc)
-      go false false c d e g h v l q = zero_is_not_one (cc)
-      go false true true d e g h v l q = zero_is_not_one (cc)
-      go false true false true e g h v l q = zero_is_not_one (cc)
-      go false true false false false g h v l q = zero_is_not_one (cc)
-      go false true false false true true h v l q = zero_is_not_one (cc)
-      go false true false false true false true v l q = zero_is_not_one (cc)
-      go false true false false true false false v l q = l q
+      (either_way Fits (bad_offset o || bad_offset r) (λ q. zero_is_not_one (cc))
+      (either_way Fits (not (is_there K x)) (λ q. zero_is_not_one (cc))
+      (either_way Fits (lacks_offset K x o || cond (is_there K y) (lacks_offset K y r) false) (λ q. zero_is_not_one (cc))
+      (either_way Fits (input_taken K x y) (λ q. zero_is_not_one (cc))
+      (either_way Fits (not (is_there K y)) (λ q. zero_is_not_one (cc))
+      (either_way Fits (same_side x.side y.side) (λ q. zero_is_not_one (cc))
+      (either_way Fits (is_wired K x o || is_wired K y r) (λ q. zero_is_not_one (cc)) (λ q. zero_is_not_one (cc)))))))))
 
   -- other calls need none
   removal_fits : (n : ℕ) → (sketch.remove_block K n).answer ≡ Err reason.NoRoom → ⊥
   unfolding sketch.remove_block
-  removal_fits n = go (has_block K.blocks n) _
-    where
-      go : (t : Bool) (l : Plan) → (cond {A = Sketched (Result (Unit {0}) Reason)} (not t) (leaves K (Err reason.UnknownBlock)) (leaves l (Ok tt))).answer ≡ Err reason.NoRoom → ⊥
-      go true l q = zero_is_not_one (cc)
-      go false l q = zero_is_not_one (cc)
+  removal_fits n = either_way Fits (not (has_block K.blocks n)) (λ q. zero_is_not_one (cc)) (λ q. zero_is_not_one (cc))
 
   cut_fits : (x : SketchPort) → (sketch.cut_port K x).answer ≡ Err reason.NoRoom → ⊥
   unfolding sketch.cut_port
-  cut_fits x = go (is_there K x) (eqb (subports_of K x) 0) (far_from (at_spot (spot_named x)) K.wires) _
+  cut_fits x =
+      either_way Fits (not (is_there K x)) (λ q. zero_is_not_one (cc))
+      (either_way (λ (v : Result (Option SketchPort) Reason). v ≡ Err reason.NoRoom → ⊥) (eqb (subports_of K x) 0) (found (far_from (at_spot (spot_named x)) K.wires)) (λ q. zero_is_not_one (cc)))
     where
-      go : (c d : Bool) (w : Far) (l : Plan) → (cond {A = Sketched (Result (Option SketchPort) Reason)} (not c) (leaves K (Err reason.UnknownPort)) (leaves l (cond d (port_found w) (Ok (Some x))))).answer ≡ Err reason.NoRoom → ⊥
-      go false d w l q = zero_is_not_one (cc)
-      go true true nothing l q = zero_is_not_one (cc)
-      go true true (far z) l q = zero_is_not_one (cc)
-      go true false w l q = zero_is_not_one (cc)
+      found : (w : Far) → port_found w ≡ Err reason.NoRoom → ⊥
+      found nothing q = zero_is_not_one (cc)
+      found (far z) q = zero_is_not_one (cc)
 
   asked_fits : (x : SketchPort) (o : ℕ) → sketch.subport_link K x o ≡ Err reason.NoRoom → ⊥
   unfolding sketch.subport_link
-  asked_fits x o = go (bad_offset o) (is_there K x) (lacks_offset K x o) (far_from (at_end (spot_named x) (offset_read K x o)) K.wires)
+  asked_fits x o =
+      either_way Refuses (bad_offset o) (λ q. zero_is_not_one (cc))
+      (either_way Refuses (not (is_there K x)) (λ q. zero_is_not_one (cc))
+      (either_way Refuses (lacks_offset K x o) (λ q. zero_is_not_one (cc)) (found (far_from (at_end (spot_named x) (offset_read K x o)) K.wires))))
     where
-      go : (c d e : Bool) (w : Far) → cond {A = Result (Option SketchEnd) Reason} c (Err reason.BadOffset) (cond (not d) (Err reason.UnknownPort) (cond e (Err reason.UnknownOffset) (end_found w))) ≡ Err reason.NoRoom → ⊥
-      go true d e w q = zero_is_not_one (cc)
-      go false false e w q = zero_is_not_one (cc)
-      go false true true w q = zero_is_not_one (cc)
-      go false true false nothing q = zero_is_not_one (cc)
-      go false true false (far z) q = zero_is_not_one (cc)
+      Refuses : Result (Option SketchEnd) Reason → Type 0
+      Refuses v = v ≡ Err reason.NoRoom → ⊥
+
+      found : (w : Far) → end_found w ≡ Err reason.NoRoom → ⊥
+      found nothing q = zero_is_not_one (cc)
+      found (far z) q = zero_is_not_one (cc)
 
   cut_sub_fits : (x : SketchPort) (o : ℕ) → (sketch.cut_subport K x o).answer ≡ Err reason.NoRoom → ⊥
   unfolding sketch.cut_subport
@@ -220,11 +204,7 @@ module _ (K : Plan) where
 
   tidy_fits : (x : SketchPort) → (sketch.tidy_port K x).answer ≡ Err reason.NoRoom → ⊥
   unfolding sketch.tidy_port
-  tidy_fits x = go (is_there K x) _
-    where
-      go : (t : Bool) (l : Plan) → (cond {A = Sketched (Result (Unit {0}) Reason)} (not t) (leaves K (Err reason.UnknownPort)) (leaves l (Ok tt))).answer ≡ Err reason.NoRoom → ⊥
-      go true l q = zero_is_not_one (cc)
-      go false l q = zero_is_not_one (cc)
+  tidy_fits x = either_way Fits (not (is_there K x)) (λ q. zero_is_not_one (cc)) (λ q. zero_is_not_one (cc))
 
 -- Adds and resizes.
 

@@ -4,11 +4,9 @@ use Rattle.std.specs.Prelude.{◌≡◌, refl, Bool, true, false, cond, not, Lis
 use Rattle.std.proofs.Common.{sym, ◌∙◌, ap, subst, inl, inr, arith, eq-eqb, ne_eqb, eqb-true, lt-ltb, leb-true, leb-false}
 use Rattle.port_tables.specs.Lists.{Member, Rising}
 use Rattle.port_tables.specs.Entries.{ports_on, new_count}
-use Rattle.portgraph.specs.Lookups.{is_some}
 use Rattle.portgraph.specs.Model as model
 use Rattle.portgraph.specs.Model.{Model, Slots, gone, live, slot_of, count_of, Dead}
 use Rattle.portgraph.specs.GoodSlots.{zero_is_not_one}
-use Rattle.portgraph.specs.PlaceLaws.{meta_of_node}
 use Rattle.port_tables.specs.declared.direction.Direction.{Direction}
 use Rattle.port_tables.specs.declared.direction.Direction.TheVariants.{Incoming, Outgoing}
 use Rattle.port_tables.specs.declared.node_entry.NodeMeta.{NodeMeta}
@@ -26,6 +24,7 @@ use Rattle.sketches.specs.declared.sketch.SketchPort.{SketchPort}
 use Rattle.agreement.specs.Meaning.{Both, PortMeans, same_port, no_port, BlockMeans, same_block, no_block}
 use Rattle.agreement.specs.Alike.{Alike, OtherName, subports_at}
 use Rattle.agreement.specs.Names.{naming, HasName, AllNamed}
+use Rattle.theorems.specs.PortCases.{gone_unless, live_contained}
 
 -- Blocks of a plan.
 
@@ -125,11 +124,7 @@ module _ {b : Both} {M : Model} (a : Alike b M) where
 
   pub block_meant : (n k : ℕ) → BlockMeans b n k → BlockHere b M n k ⊎ BlockGone b M n k
   block_meant n k (same_block i) = inl (block_here n k i)
-  block_meant n k (no_block e h) = inr (go (M.node n) refl, h)
-    where
-      go : (v : Slots) → M.node n ≡ v → M.node n ≡ gone
-      go gone q = q
-      go (live c) q = let z = ap is_some (meta_of_node a.rel.fine.good a.rel.fine.holds n c q) in absurd (true_not_false z e)
+  block_meant n k (no_block e h) = inr (gone_unless (M.node n) (λ c q. true_not_false (live_contained a.rel.fine n c q) e), h)
 
   -- Ports.
 

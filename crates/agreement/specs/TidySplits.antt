@@ -5,7 +5,6 @@ use Rattle.std.proofs.Common.{◌∙◌, ap, subst}
 use Rattle.std.proofs.Math.Bool.{true, false, cond}
 use native.Mathlib.Omega.{arith}
 use Rattle.std.proofs.Math.Dec.{ltb}
-use Rattle.std.proofs.Math.Seq.{get_or-set_other}
 use borrow.Author.Tests.{ltb-true, ltb-false, le-leb, lt-leb, eq-eqb}
 use Rattle.port_tables.specs.Entries.{reversed}
 use Rattle.portgraph.specs.Meaning.{remove_model, link_model, at_node}
@@ -17,8 +16,8 @@ use Rattle.portgraph.specs.Sums.{upd_other, drop_there}
 use Rattle.portgraph.specs.PlaceLaws.{meta_of_node}
 use Rattle.port_tables.specs.declared.direction.Direction.{Direction}
 use Rattle.portgraph.specs.declared.portgraph.PortGraph.{PortGraph}
-use Rattle.multiportgraph.specs.CopyLaws.{CopyGone, copy_goes}
-use Rattle.multiportgraph.specs.Ends.{Hangs, hangs, split_has_copy, one_copy, ends_join_ends, end_side, unsplit_is_end, unlinked_is, linked_is, far_of}
+use Rattle.multiportgraph.specs.CopyLaws.{CopyGone, copy_goes, hidden_other}
+use Rattle.multiportgraph.specs.Ends.{Hangs, hangs, split_has_copy, one_copy, ends_join_ends, end_side, unsplit_is_end, unlinked_is, linked_is, far_of, seen_still}
 use Rattle.multiportgraph.specs.HiddenStays.{copy_side_is, true_not_false, same_slot}
 use Rattle.multiportgraph.specs.Graph.{with_graph}
 use Rattle.multiportgraph.specs.HiddenNodes.{recounted, remove_copy, unsplit, enough}
@@ -31,8 +30,7 @@ use Rattle.multiportgraph.specs.Tidy.{linked_up_to, subports_left, left_incoming
 use Rattle.multiportgraph.specs.TidyLaws.{LastLinked, last_linked, empty_above, ShorterDone, drop_done, drop_within, drop_set, within_is, bare_is}
 use Rattle.multiportgraph.specs.declared.multiportgraph.MultiPortGraph.{MultiPortGraph}
 use Rattle.agreement.specs.Alike.{subports_at}
-use Rattle.agreement.specs.KeptSplits.{split_kept, same_subports}
-use Rattle.agreement.specs.Carry.{seen_still}
+use Rattle.agreement.specs.KeptSplits.{split_kept, same_subports, copies_apart}
 use Rattle.agreement.specs.CutSquares.{copy_keeps_splits}
 use Rattle.agreement.specs.PreparedSubports.{linked_subports}
 use Rattle.std.proofs.lemmas.Bool.{false_from_ne_true}
@@ -73,10 +71,10 @@ module _ {m : MultiPortGraph} {M : Model} (f : Fine m M) (x : model.InnerPlace) 
       f' = drops.is.fine
 
       s' : Seen shorter# drops.model y
-      s' = seen_still f f' drops.is.blocks y s
+      s' = (seen_still f f' drops.is.blocks y s).0
 
       other : (k : Hangs m M y) → k.copy ≡ h.copy → ⊥
-      other k e = away (to_same k.from (ap (λ (c : ℕ). M.join (copy_place m c)) e ∙ h.from))
+      other k = copies_apart h k away
 
       whole : is_split m (slot_of M.node y) ≡ false → Hangs shorter# drops.model y → ⊥
       whole e k =
@@ -111,10 +109,6 @@ module _ {m : MultiPortGraph} {M : Model} (f : Fine m M) (x : model.InnerPlace) 
   went# : CopyGone m M x bare# bare_model#
   went# = copy_goes f x h
 
-  bare_hidden : (n : ℕ) → (n ≡ h.copy → ⊥) → is_hidden bare# n ≡ is_hidden m n
-  unfolding is_hidden remove_copy
-  bare_hidden n other = get_or-set_other m.copy_node h.copy n false false other
-
   bare_others : (y : model.InnerPlace) → Seen m M y → (y ≡ x → ⊥) → subports_at bare# bare_model# y ≡ subports_at m M y
   bare_others y s away = same_subports m M bare# bare_model# y (copy_keeps_splits f x h y s away)
 
@@ -147,9 +141,9 @@ module _ {m : MultiPortGraph} {M : Model} (f : Fine m M) (x : model.InnerPlace) 
         record {
           valid = subst (λ (s : Slots). y.pos < count_of s y.side) (sym far_node) far_end#.valid;
           unsplit = λ e. false_from_ne_true _ (λ t.
-              true_not_false (went#.only_split (slot_of M.node y) (ap (is_split bare#) (sym far_slot#) ∙ t)) (far_end#.unsplit (sym (bare_hidden y.node elsewhere) ∙ e)));
+              true_not_false (went#.only_split (slot_of M.node y) (ap (is_split bare#) (sym far_slot#) ∙ t)) (far_end#.unsplit (sym (hidden_other m (slot_of M.node x) h.copy y.node elsewhere) ∙ e)));
           subport = λ e q.
-              let hid : is_hidden m y.node ≡ true = sym (bare_hidden y.node elsewhere) ∙ e in
+              let hid : is_hidden m y.node ≡ true = sym (hidden_other m (slot_of M.node x) h.copy y.node elsewhere) ∙ e in
               let c = f.copy y.node hid in
               far_end#.subport hid
               (q ∙ copy_side_is bare# y.node c.meta (copy_side m y.node) (meta_of_node went#.fine.good went#.fine.holds y.node c.meta (far_node ∙ c.here)) c.single c.several);
@@ -220,7 +214,7 @@ module _ {m : MultiPortGraph} {M : Model} (f : Fine m M) (x : model.InnerPlace) 
             after = link_model (bare_model# f x sx h) x y;
             fine = direct_fine f x sx h y j;
             here = direct_same f x sx h y j x (went# f x sx h).is_seen ∙ (bare_here f x sx h ∙ sym few);
-            others = λ v t away. direct_same f x sx h y j v (seen_still f (went# f x sx h).fine (went# f x sx h).blocks v t) ∙ bare_others f x sx h v t away;
+            others = λ v t away. direct_same f x sx h y j v (seen_still f (went# f x sx h).fine (went# f x sx h).blocks v t).0 ∙ bare_others f x sx h v t away;
           })
 
   pub tidied_subports : TidySubports m M x (tidied m p x.side)

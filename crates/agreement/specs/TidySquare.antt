@@ -1,4 +1,5 @@
 -- The square of a tidy: the sketch keeps the subports up to the highest wired one, as the engine does up to the last linked one.
+use Rattle.std.proofs.lemmas.Bool.{or_cases}
 use Rattle.std.specs.Prelude.{◌≡◌, refl, Bool, true, false, not, List, [], ◌∷◌, ℕ, zero, suc, ◌≤◌, ◌<◌, max, eqb, ltb, Result, Ok, Err}
 use Rattle.std.proofs.Common.{sym, ◌∙◌, subst, inl, inr, arith, eqb-true, ltb-true, ltb-false}
 use Rattle.std.proofs.Math.Path.{ap}
@@ -10,8 +11,6 @@ use Rattle.portgraph.specs.Model as model
 use Rattle.portgraph.specs.Model.{Model, to, slot_of, count_of}
 use Rattle.port_tables.specs.declared.direction.Direction.{Direction}
 use Rattle.multiportgraph.specs.Calls.{tidy_port}
-use Rattle.multiportgraph.specs.Cases.{tidy_seen}
-use Rattle.multiportgraph.specs.CaseLaws.{tidy_cases}
 use Rattle.multiportgraph.specs.Ends.{Hangs, one_copy, outer_of_block, outer_of_subport, lift_place, ends_join_ends, end_side}
 use Rattle.multiportgraph.specs.HiddenStays.{true_not_false}
 use Rattle.multiportgraph.specs.WellFormed.{inner#, Fine, Seen, lift, outer, IsEnd}
@@ -25,11 +24,10 @@ use Rattle.multiportgraph.specs.declared.multiportgraph.PortTidied.{PortTidied}
 use Rattle.portgraph.specs.GoodSlots.{same_place_lem}
 use Rattle.theorems.specs.Book as book
 use Rattle.theorems.specs.Book.{Book}
-use Rattle.theorems.specs.BookLaws.{or_true}
 use Rattle.theorems.specs.Conditions.{cut_dead}
 use Rattle.theorems.specs.PortCases.{seen_block_port}
 use Rattle.theorems.proofs.ReleaseRuns.{step_keeps}
-use Rattle.theorems.proofs.TidyCall.{tidy_refuses}
+use Rattle.theorems.proofs.TidyCall.{tidy_refuses, tidy_is}
 use Rattle.theorems.proofs.WireRule.{Rel, rel_same}
 use Rattle.sketches.specs.Plan.{is_there, spot_named, subports_of, set_subports, above_end, above_wired}
 use Rattle.sketches.specs.PlanCalls as sketch
@@ -40,7 +38,7 @@ use Rattle.sketches.specs.declared.sketch.Reason.TheVariants as reason
 use Rattle.agreement.specs.Meaning.{Naming, Both, PortMeans, means_tidy}
 use Rattle.agreement.specs.Agreement.{TidyAlike}
 use Rattle.agreement.specs.Alike.{Alike, Apart, subports_at}
-use Rattle.agreement.specs.Square.{Square}
+use Rattle.agreement.specs.Square.{Square, squared, as_both}
 use Rattle.agreement.specs.Names.{naming, AllNamed, renamed, same_spot}
 use Rattle.agreement.specs.Standing.{PortHere, PortGone, here#, port_meant, wires_named, is_split_lem}
 use Rattle.agreement.specs.PlanLaws.{set_release, set_adds, set_blocks, set_wires}
@@ -72,7 +70,7 @@ above_most s r (w ∷ ws) h =
 above_least : (s : Spot) (o : ℕ) (ws : List Wire) → any_touches (at_end s o) ws ≡ true → suc o ≤ above_wired s ws
 unfolding above_wired any_touches at_end
 above_least s o [] t = absurd (true_not_false t refl)
-above_least s o (w ∷ ws) t = ⊎_elim here (λ e. later (above_least s o ws e)) (or_true (touches (at_end s o) w) (any_touches (at_end s o) ws) t)
+above_least s o (w ∷ ws) t = ⊎_elim here (λ e. later (above_least s o ws e)) (or_cases (touches (at_end s o) w) (any_touches (at_end s o) ws) t)
   where
     keeps : (x : Place) (n : ℕ) → n ≤ above_end s x n
     keeps x n = go (at_spot s x)
@@ -94,7 +92,7 @@ above_least s o (w ∷ ws) t = ⊎_elim here (λ e. later (above_least s o ws e)
     here : touches (at_end s o) w ≡ true → suc o ≤ above_end s w.out out
     here e =
         ⊎_elim (λ a. reaches w.out out a) (λ a. let k = reaches w.into (above_wired s ws) a in let l = keeps w.out out in omega arith)
-        (or_true (at_end s o w.out) (at_end s o w.into) e)
+        (or_cases (at_end s o w.out) (at_end s o w.into) e)
 
     later : suc o ≤ above_wired s ws → suc o ≤ above_end s w.out out
     later k = let l = keeps w.into (above_wired s ws) in let q = keeps w.out out in omega arith
@@ -190,6 +188,11 @@ module _ {b : Both} {M : Model} (a : Alike b M) (p : ℕ) (x : SketchPort) where
   counted = sketch.tidied (above_wired (spot_named x) b.plan.wires)
 
   module _ (h : PortHere b M p x) where
+    -- what the engine does with the port, by its mark
+    tidied_is : (t : Bool) → is_split m p ≡ t → tidy_port m p ≡ record { graph = cond t (kit.tidied m p x.side) m; answer = Ok tt }
+    tidied_is t e =
+        tidy_is a.rel.fine p _ (seen_block_port a.rel.fine p (here# h) (h.is_seen, h.slot)) ∙ ap (λ (c : Bool). record { graph = cond c (kit.tidied m p x.side) m; answer = Ok tt }) e
+
     above_plan : (last : ℕ) (k : Hangs m M (here# h)) → LastLinked M k.copy x.side (count_of (M.node k.copy) x.side) last → above_wired (spot_named x) b.plan.wires ≡ last
     above_plan last k l =
         ap (above_wired (spot_named x)) a.wires
@@ -204,7 +207,7 @@ module _ {b : Both} {M : Model} (a : Alike b M) (p : ℕ) (x : SketchPort) where
         let s = tidied_subports f (here# h) h.is_seen e in
         let g = kit.tidied m (slot_of M.node (here# h)) x.side in
         let kept : g.release ≡ m.release =
-        ap (λ (q : ℕ). (kit.tidied m q x.side).release) h.slot ∙ (ap (λ (v : PortTidied). v.graph.release) (sym (is t)) ∙ step_keeps m (book.tidy_call p)) in
+        ap (λ (q : ℕ). (kit.tidied m q x.side).release) h.slot ∙ (ap (λ (v : PortTidied). v.graph.release) (sym (tidied_is true t)) ∙ step_keeps m (book.tidy_call p)) in
         let now : subports_at g d.model (here# h) ≡ counted =
         any_model g s.fine.holds d.fine.holds (here# h) ∙ (s.here ∙ ap sketch.tidied (sym (above_plan s.last s.hangs s.linked))) in (
           tt,
@@ -217,9 +220,6 @@ module _ {b : Both} {M : Model} (a : Alike b M) (p : ℕ) (x : SketchPort) where
                 (set_there a h b.plan refl counted) (set_wires b.plan x counted ∙ a.wires)),
           ),
         )
-      where
-        is : is_split m p ≡ true → tidy_port m p ≡ record { graph = kit.tidied m p x.side; answer = Ok tt }
-        is t = tidy_cases m p ∙ (ap (tidy_seen m p) (seen_block_port a.rel.fine p (here# h) (h.is_seen, h.slot)) ∙ ap (λ (c : Bool). record { graph = cond c (kit.tidied m p x.side) m; answer = Ok tt }) t)
 
   plan_is : is_there b.plan x ≡ true → (t : Bool) → eqb (subports_of b.plan x) 0 ≡ t → sketch.tidy_port b.plan x ≡ leaves (cond t b.plan (set_subports b.plan x counted)) (Ok tt)
   unfolding sketch.tidy_port
@@ -237,17 +237,9 @@ module _ {b : Both} {M : Model} (a : Alike b M) (p : ℕ) (x : SketchPort) where
       here : PortHere b M p x → Left (tidy_port m p) (sketch.tidy_port b.plan x)
       here h = go (is_split m p) refl
         where
-          is : (t : Bool) → is_split m p ≡ t → tidy_port m p ≡ record { graph = cond t (kit.tidied m p x.side) m; answer = Ok tt }
-          is t e =
-              tidy_cases m p
-              ∙ (ap (tidy_seen m p) (seen_block_port a.rel.fine p (here# h) (h.is_seen, h.slot)) ∙ ap (λ (c : Bool). record { graph = cond c (kit.tidied m p x.side) m; answer = Ok tt }) e)
-
-          both : {w : PortTidied} {v : Sketched (Result (Unit {0}) Reason)} → tidy_port m p ≡ w → sketch.tidy_port b.plan x ≡ v → Left w v → Left (tidy_port m p) (sketch.tidy_port b.plan x)
-          both {w} {v} p q l = subst (λ (u : PortTidied). Left u (sketch.tidy_port b.plan x)) (sym p) (subst (Left w) (sym q) l)
-
           go : (t : Bool) → is_split m p ≡ t → Left (tidy_port m p) (sketch.tidy_port b.plan x)
-          go true e = both (is true e) (plan_is h.there false (is_split_lem a h ∙ ap not e)) (tidied_left h e)
-          go false e = both (is false e) (plan_is h.there true (is_split_lem a h ∙ ap not e)) (tt, (M, a))
+          go true e = as_both Left _ (tidied_is h true e) (plan_is h.there false (is_split_lem a h ∙ ap not e)) (tidied_left h e)
+          go false e = as_both Left _ (tidied_is h false e) (plan_is h.there true (is_split_lem a h ∙ ap not e)) (tt, (M, a))
 
 pub tidy_square : {b : Both} {M : Model} (p : ℕ) (x : SketchPort) (means : PortMeans b p x) → Square b M (means_tidy p x means)
-tidy_square {b} {M} p x means a room = let l = tidy_left a p x means in record { answers = l.0; model = l.1.0; alike = l.1.1 }
+tidy_square {b} {M} p x means a room = squared (tidy_left a p x means)

@@ -13,7 +13,7 @@
 --   LoadedLaws    the requests of a file are its build, and a list that begins with them goes on from the loaded graph
 --   ViewedLaws    a view is read back, and shows the book that goes with its graph
 --   TimedLaws     what a number says that an entry for times returns
---   ExportSteps, LoadedSteps, ViewedSteps, TimedSteps   what the functions' proofs cite
+--   LoadedSteps, ViewedSteps   what the functions' proofs cite
 pub mod Exports
 pub mod Viewed
 pub mod ViewedClaims
@@ -27,7 +27,5 @@ pub mod LoadedLaws
 pub mod ViewedLaws
 pub mod TimedLaws
 -- steps
-pub mod ExportSteps
 pub mod LoadedSteps
 pub mod ViewedSteps
-pub mod TimedSteps

@@ -1,6 +1,6 @@
 -- The requests that are written of a file are the adds and links of its build, so that a list which begins with them goes on from the
 -- graph that a load of the file gives.
-use Rattle.std.specs.Prelude.{◌≡◌, refl, ℕ, ◌+◌, ◌*◌, ◌/◌, ◌%◌, ◌≤◌, length, Result, Ok, is_ok}
+use Rattle.std.specs.Prelude.{◌≡◌, refl, ℕ, ◌+◌, ◌*◌, ◌/◌, ◌%◌, ◌≤◌, length, Result, Ok}
 use Rattle.std.proofs.Common.{sym, ◌∙◌, arith, length-append}
 use Rattle.std.proofs.Math.Path.{ap}
 use mathlib.Core.List.{List, [], ◌∷◌, ◌++◌, map, flat_map, append-nil}
@@ -17,7 +17,7 @@ use Rattle.files.specs.View.{BlockPorts, RankWire, View}
 use Rattle.files.specs.Layout.{unbytes}
 use Rattle.files.specs.Loading.{out_port, in_port, add_of, link_of, build_of, load_answer, graph_if, load_graph, load_graph_under}
 use Rattle.files.specs.BuildList.{add_pair, link_pair}
-use Rattle.files.specs.ListingSteps.{loaded_few}
+use Rattle.files.specs.LoadAnswers.{loaded_few}
 use Rattle.files.specs.declared.load.LoadError.{LoadError}
 use Rattle.exports.specs.Exports.{graph_left, build_requests, file_requests, pair_requests}
 use Rattle.exports.specs.LoadedSteps.{build_split, requests_many}
@@ -114,7 +114,7 @@ module _ (file : List ℕ) (accepted : load_answer One file ≡ Ok tt) where
   pub requests_are_short : length (file_requests file) ≤ 51200
   requests_are_short =
       let v = unbytes file in
-      let f = loaded_few One file (ap is_ok accepted) in
+      let f = loaded_few One file accepted in
       let a = ap length (build_split v) ∙ length-append (pair_requests 1 (flat_map add_pair v.blocks)) (pair_requests 4 (flat_map (link_pair v.blocks) v.wires)) in
       let b = requests_many 1 add_pair (λ x. refl) v.blocks in
       let c = requests_many 4 (link_pair v.blocks) (λ x. refl) v.wires in

@@ -7,32 +7,24 @@ use native.Mathlib.Omega.{arith}
 use Rattle.std.proofs.Math.ListN.{length, get_or, drop, length-append, length-replicate}
 use Rattle.std.proofs.Math.Seq.{sets, length-sets}
 use Rattle.std.proofs.lemmas.List.Edits.{sets-eq}
-use borrow.Author.Tests.{le-leb, lt-leb}
+use borrow.Author.Tests.{le-leb}
 use Rattle.port_tables.specs.Limits.{node_slots, port_slots}
 use Rattle.port_tables.specs.ResizeLinkSteps.{sets_append}
-use Rattle.multi_tables.specs.EndAnswers.{refusal_numbers}
 use Rattle.multiportgraph.specs.Listed.{list_after}
-use Rattle.multi_tables.specs.declared.answers.Refusal.{Refusal}
 use Rattle.port_tables.specs.declared.release.Release.TheVariants.{One}
 use Rattle.records.specs.Words.{bytes_of}
 use Rattle.records.specs.WordLaws.{bytes_append, bytes_long}
-use Rattle.records.specs.Run.{five}
-use Rattle.records.specs.declared.answers.Answer5.{Answer5}
 use Rattle.files.specs.View.{BlockPorts, View}
 use Rattle.files.specs.Layout.{unbytes}
 use Rattle.files.specs.Loading.{out_port, in_port, load_answer, load_numbers}
 use Rattle.std.specs.Result.{result_and, result_unwrap_or}
 use Rattle.multiportgraph.specs.HiddenStays.{true_not_false}
 use Rattle.files.specs.BuildList.{add_pair, link_pair, build_numbers, list_build, build_after}
-use Rattle.files.specs.ListingSteps.{pairs_long, loaded_few}
+use Rattle.files.specs.LoadAnswers.{loaded_few}
+use Rattle.multiportgraph.specs.ListReads.{flat_map_length}
 use Rattle.files.specs.declared.load.LoadError.{LoadError}
 use Rattle.files.specs.declared.check.Shape.{Shape}
 use Rattle.exports.specs.Exports.{refused_with, add_words, link_words, pair_request, pair_requests, build_requests, file_requests, records_return, records_written}
-
--- Numbers of answers.
-
-pub refusal_number : (r : Refusal) (w : Answer5) → w.0 ≡ five (refusal_numbers r) → get_or w.0 0 0 ≡ get_or (refusal_numbers r) 0 0
-refusal_number r w e = ap (λ (l : List ℕ). get_or l 0 0) e
 
 -- Requests of pairs.
 
@@ -61,7 +53,7 @@ pairs_counted code (suc n) (a ∷ b ∷ l) h =
     omega arith
 
 pub requests_many : {A : Type 0} (code : ℕ) (f : A → List ℕ) → ((x : A) → length (f x) ≡ 2) → (l : List A) → length (pair_requests code (flat_map f l)) ≡ 20 * length l
-requests_many code f h l = pairs_counted code (length l) (flat_map f l) (pairs_long f h l)
+requests_many code f h l = pairs_counted code (length l) (flat_map f l) (flat_map_length f 2 h l)
 
 -- Laid one after the other.
 
@@ -84,40 +76,28 @@ pub record Requesting (code : ℕ) (numbers rest requests₀ requests : List ℕ
   pub same : sets requests place (pair_requests code rest) ≡ sets requests₀ at (pair_requests code numbers)
   pub long : length requests ≡ length requests₀
 
-pub requests_begin : (code : ℕ) (numbers : List ℕ) {rest : List ℕ} (requests : List ℕ) (at : ℕ) {n : ℕ} → rest ≡ numbers → n ≡ 0 → Requesting code numbers rest requests requests at (at + 20 * n)
-requests_begin code numbers requests at e z =
-    let p : at + 20 * 0 ≡ at = omega arith in
-    rw (e, z) (record { counted = omega arith; same = ap (λ (k : ℕ). sets requests k (pair_requests code numbers)) p; long = refl })
+pub requests_end : {code : ℕ} {numbers rest requests₀ requests : List ℕ} {at place : ℕ} → Requesting code numbers rest requests₀ requests at place → length rest < 2
+    → requests ≡ sets requests₀ at (pair_requests code numbers)
+requests_end {code} {rest = rest} {requests = requests} {place = place} w h = ap (sets requests place) (sym (pair_none code rest (omega arith))) ∙ w.same
 
-module _ {code : ℕ} {numbers rest requests₀ requests : List ℕ} {at place : ℕ} (w : Requesting code numbers rest requests₀ requests at place) where
-  pub requests_end : length rest < 2 → requests ≡ sets requests₀ at (pair_requests code numbers)
-  requests_end h = ap (sets requests place) (sym (pair_none code rest (omega arith))) ∙ w.same
-
-  module _ (pair next : List ℕ) (e : rest ≡ pair ++ next) (n : length pair ≡ 2) where
-    counted_on : length (pair_requests code rest) ≡ 20 + length (pair_requests code next)
-    counted_on =
-        let b = bytes_long (code ∷ get_or pair 0 0 ∷ get_or pair 1 0 ∷ 0 ∷ 0 ∷ []) in
-        let c = ap length (pair_on code rest pair next e n) ∙ length-append (pair_request code (get_or pair 0 0) (get_or pair 1 0)) (pair_requests code next) in
-        omega arith
-
-    pub request_fits : at + length (pair_requests code numbers) ≤ length requests₀ → place + 20 ≤ length requests
-    request_fits k = let a = w.counted in let b = counted_on in let c = w.long in omega arith
-
-    pub request_turn : {requests' : List ℕ} {here there : ℕ} → here ≡ place → there ≡ place + 20 → requests' ≡ sets requests here (pair_request code (get_or pair 0 0) (get_or pair 1 0))
-        → Requesting code numbers next requests₀ requests' at there
-    request_turn {requests'} {here} {there} h t laid_here =
-        let g : requests' ≡ sets requests place (pair_request code (get_or pair 0 0) (get_or pair 1 0)) = rw h at laid_here in
-        let u = pair_request code (get_or pair 0 0) (get_or pair 1 0) in
-        let a = w.counted in
-        let b = counted_on in
-        let s : place + length u ≡ there = let l : length u ≡ 20 = bytes_long (code ∷ get_or pair 0 0 ∷ get_or pair 1 0 ∷ 0 ∷ 0 ∷ []) in omega arith in
-        record {
-          counted = omega arith;
-          same =
-              (λ j. sets (g j) (sym s j) (pair_requests code next))
-              ∙ (sets_append requests place u (pair_requests code next) ∙ (ap (sets requests place) (sym (pair_on code rest pair next e n)) ∙ w.same));
-          long = ap length g ∙ (length-sets requests place u ∙ w.long);
-        }
+-- a turn of the loop over the pairs
+module _ {code : ℕ} {numbers rest requests₀ requests : List ℕ} {at count : ℕ} (w : Requesting code numbers rest requests₀ requests at (at + 20 * count)) where
+  pub request_turn : (pair next : List ℕ) → rest ≡ pair ++ next → length pair ≡ 2 → {i count' : ℕ} → i ≡ count → count' ≡ count + 1
+      → {requests' : List ℕ} → requests' ≡ sets requests (at + 20 * i) (pair_request code (get_or pair 0 0) (get_or pair 1 0)) → Requesting code numbers next requests₀ requests' at (at + 20 * count')
+  request_turn pair next e n {i} {count'} h t {requests'} laid =
+      let u = pair_request code (get_or pair 0 0) (get_or pair 1 0) in
+      let g : requests' ≡ sets requests (at + 20 * count) u = rw h at laid in
+      let a = w.counted in
+      let b = ap length (pair_on code rest pair next e n) ∙ length-append u (pair_requests code next) in
+      let l : length u ≡ 20 = bytes_long (code ∷ get_or pair 0 0 ∷ get_or pair 1 0 ∷ 0 ∷ 0 ∷ []) in
+      let s : at + 20 * count + length u ≡ at + 20 * count' = omega arith in
+      record {
+        counted = omega arith;
+        same =
+            (λ j. sets (g j) (sym s j) (pair_requests code next))
+            ∙ (sets_append requests (at + 20 * count) u (pair_requests code next) ∙ (ap (sets requests (at + 20 * count)) (sym (pair_on code rest pair next e n)) ∙ w.same));
+        long = ap length g ∙ (length-sets requests (at + 20 * count) u ∙ w.long);
+      }
 
 -- so many they are
 pub requests_counted : (code : ℕ) (numbers : List ℕ) → length (pair_requests code numbers) ≡ 20 * (length numbers / 2)
@@ -152,7 +132,13 @@ unfolding records_return records_written list_build
 records_refused file requests isListed f = let e = refused_as _ (load_answer One file) isListed in rw e (f, refl)
 
 module _ (file : List ℕ) {listed : Shape} (isListed : Ok listed ≡ list_build One file) where
-  loaded : load_answer One file ≡ Ok tt
+  abbrev adds : List ℕ
+  adds = flat_map add_pair (unbytes file).blocks
+
+  abbrev links : List ℕ
+  links = flat_map (link_pair (unbytes file).blocks) (unbytes file).wires
+
+  pub loaded : load_answer One file ≡ Ok tt
   unfolding list_build
   loaded = (listed_as (load_answer One file) isListed).0
 
@@ -167,42 +153,38 @@ module _ (file : List ℕ) {listed : Shape} (isListed : Ok listed ≡ list_build
   wires_many = ap (λ (r : Shape). r.wires) said
 
   pub adds_few : listed.blocks ≤ node_slots
-  adds_few = let h = loaded_few One file (ap is_ok loaded) in let a = blocks_many in omega (arith, h.0)
+  adds_few = let h = loaded_few One file loaded in let a = blocks_many in omega (arith, h.0)
 
   pub links_few : 2 * listed.wires ≤ port_slots
-  links_few = let h = loaded_few One file (ap is_ok loaded) in let a = wires_many in omega (arith, h.1)
+  links_few = let h = loaded_few One file loaded in let a = wires_many in omega (arith, h.1)
 
-module _ (file requests : List ℕ) (listed : Shape) (isListed : Ok listed ≡ list_build One file) where
-  abbrev adds : List ℕ
-  adds = flat_map add_pair (unbytes file).blocks
+  adds_long : length adds ≡ 2 * listed.blocks
+  adds_long = let a = flat_map_length add_pair 2 (λ b. refl) (unbytes file).blocks in let b = blocks_many in omega arith
 
-  abbrev links : List ℕ
-  links = flat_map (link_pair (unbytes file).blocks) (unbytes file).wires
-
-  pub adds_long : length adds ≡ 2 * listed.blocks
-  adds_long = let a = pairs_long add_pair (λ b. refl) (unbytes file).blocks in let b = blocks_many file isListed in omega arith
-
-  pub links_long : length links ≡ 2 * listed.wires
-  links_long = let a = pairs_long (link_pair (unbytes file).blocks) (λ w. refl) (unbytes file).wires in let b = wires_many file isListed in omega arith
+  links_long : length links ≡ 2 * listed.wires
+  links_long = let a = flat_map_length (link_pair (unbytes file).blocks) 2 (λ w. refl) (unbytes file).wires in let b = wires_many in omega arith
 
   first_long : length (pair_requests 1 adds) ≡ 20 * listed.blocks
-  first_long = let a = requests_many 1 add_pair (λ b. refl) (unbytes file).blocks in let b = blocks_many file isListed in omega arith
+  first_long = let a = requests_many 1 add_pair (λ b. refl) (unbytes file).blocks in let b = blocks_many in omega arith
 
   second_long : length (pair_requests 4 links) ≡ 20 * listed.wires
-  second_long = let a = requests_many 4 (link_pair (unbytes file).blocks) (λ w. refl) (unbytes file).wires in let b = wires_many file isListed in omega arith
+  second_long = let a = requests_many 4 (link_pair (unbytes file).blocks) (λ w. refl) (unbytes file).wires in let b = wires_many in omega arith
 
-  whole_long : length (file_requests file) ≡ 20 * (listed.blocks + listed.wires)
+  pub whole_long : length (file_requests file) ≡ 20 * (listed.blocks + listed.wires)
   whole_long =
       let a = ap length (build_split (unbytes file)) ∙ length-append (pair_requests 1 adds) (pair_requests 4 links) in
       let b = first_long in
       let c = second_long in
       omega arith
 
-  pub records_short : length requests < 20 * (listed.blocks + listed.wires) → (refused_with 15 ≡ records_return file requests) × (requests ≡ records_written file requests)
-  unfolding records_return records_written list_after
-  records_short h = let n = whole_long in let t = lt-leb (length (file_requests file)) (length requests) (omega arith) in (rw (loaded file isListed, t) refl, rw (loaded file isListed, t) refl)
+  module _ {numbers : List ℕ} (areNumbers : numbers ≡ build_after One file no_numbers) where
+    -- the two slices
+    abbrev first : List ℕ
+    first = take (2 * listed.blocks) numbers
 
-  module _ (numbers : List ℕ) (areNumbers : numbers ≡ build_after One file no_numbers) where
+    abbrev second : List ℕ
+    second = take (2 * (listed.blocks + listed.wires) - 2 * listed.blocks) (drop (2 * listed.blocks) numbers)
+
     numbers_are : numbers ≡ adds ++ (links ++ drop (length (adds ++ links)) no_numbers)
     unfolding build_after list_after build_numbers
     numbers_are =
@@ -210,29 +192,33 @@ module _ (file requests : List ℕ) (listed : Shape) (isListed : Ok listed ≡ l
         let b = links_long in
         let c = length-append adds links in
         let d = length-replicate {A = ℕ} build_most 0 in
-        let x = adds_few file isListed in
-        let y = links_few file isListed in
-        areNumbers ∙ rw (loaded file isListed, le-leb (length (adds ++ links)) (length no_numbers) (omega arith)) (append_assoc adds links (drop (length (adds ++ links)) no_numbers))
+        let x = adds_few in
+        let y = links_few in
+        areNumbers ∙ rw (loaded, le-leb (length (adds ++ links)) (length no_numbers) (omega arith)) (append_assoc adds links (drop (length (adds ++ links)) no_numbers))
 
-    pub adds_are : take (2 * listed.blocks) numbers ≡ adds
+    adds_are : first ≡ adds
     adds_are = ap (take (2 * listed.blocks)) numbers_are ∙ take_at adds _ (2 * listed.blocks) adds_long
 
-    pub links_are : take (2 * (listed.blocks + listed.wires) - 2 * listed.blocks) (drop (2 * listed.blocks) numbers) ≡ links
+    links_are : second ≡ links
     links_are =
         let n : 2 * (listed.blocks + listed.wires) - 2 * listed.blocks ≡ 2 * listed.wires = omega arith in
         rw n
         (ap (λ (l : List ℕ). take (2 * listed.wires) (drop (2 * listed.blocks) l)) numbers_are
         ∙ (ap (take (2 * listed.wires)) (drop_at adds _ (2 * listed.blocks) adds_long) ∙ take_at links _ (2 * listed.wires) links_long))
 
-    module _ (enough : 20 * (listed.blocks + listed.wires) ≤ length requests) {first second : List ℕ} (is_first : first ≡ adds) (isSecond : second ≡ links) where
+    pub first_many : 2 * listed.blocks ≡ length first
+    first_many = sym (ap length adds_are ∙ adds_long)
+
+    module _ (requests : List ℕ) (enough : 20 * (listed.blocks + listed.wires) ≤ length requests) where
       pub first_room : 0 + length (pair_requests 1 first) ≤ length requests
-      first_room = let a = ap (λ (l : List ℕ). length (pair_requests 1 l)) is_first in let b = first_long in omega arith
+      first_room = let a = ap (λ (l : List ℕ). length (pair_requests 1 l)) adds_are in let b = first_long in omega arith
 
       module _ {requests₁ : List ℕ} {next : ℕ} (isNext : next ≡ 0 + length (pair_requests 1 first)) (laid₁ : requests₁ ≡ sets requests 0 (pair_requests 1 first)) where
-        pub second_room : length requests₁ ≡ length requests → next + length (pair_requests 4 second) ≤ length requests₁
-        second_room h =
-            let a = ap (λ (l : List ℕ). length (pair_requests 1 l)) is_first in
-            let b = ap (λ (l : List ℕ). length (pair_requests 4 l)) isSecond in
+        pub second_room : next + length (pair_requests 4 second) ≤ length requests₁
+        second_room =
+            let h = ap length laid₁ ∙ length-sets requests 0 (pair_requests 1 first) in
+            let a = ap (λ (l : List ℕ). length (pair_requests 1 l)) adds_are in
+            let b = ap (λ (l : List ℕ). length (pair_requests 4 l)) links_are in
             let c = first_long in
             let d = second_long in
             omega arith
@@ -246,7 +232,7 @@ module _ (file requests : List ℕ) (listed : Shape) (isListed : Ok listed ≡ l
             let e = build_split (unbytes file) in
             let y : 0 + length (file_requests file) ≡ length (file_requests file) = omega arith in
             let s : requests₂ ≡ sets requests 0 (file_requests file) =
-            laid₂ ∙ ((λ j. sets (laid₁ j) (isNext j) (pair_requests 4 (isSecond j)))
+            laid₂ ∙ ((λ j. sets (laid₁ j) (isNext j) (pair_requests 4 (links_are j)))
             ∙ (sets_append requests 0 (pair_requests 1 first) (pair_requests 4 links)
-            ∙ ((λ j. sets requests 0 (pair_requests 1 (is_first j) ++ pair_requests 4 links)) ∙ ap (sets requests 0) (sym e)))) in
-            (rw (loaded file isListed, t) (sym n), rw (loaded file isListed, t) (s ∙ (sets-eq (file_requests file) requests 0 (omega arith) ∙ ap (λ (k : ℕ). file_requests file ++ drop k requests) y)))
+            ∙ ((λ j. sets requests 0 (pair_requests 1 (adds_are j) ++ pair_requests 4 links)) ∙ ap (sets requests 0) (sym e)))) in
+            (rw (loaded, t) (sym n), rw (loaded, t) (s ∙ (sets-eq (file_requests file) requests 0 (omega arith) ∙ ap (λ (k : ℕ). file_requests file ++ drop k requests) y)))

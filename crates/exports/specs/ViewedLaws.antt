@@ -1,10 +1,11 @@
 -- What a reader takes from the bytes of a view is the listings of its graph, and they show the book.
 use Rattle.std.specs.Prelude.{◌≡◌, ℕ, zero, suc, ◌+◌, ◌*◌, ◌/◌, ◌%◌, ◌<◌, length, take, drop}
 use Rattle.std.proofs.Math.Path.{refl, sym, ap}
-use Rattle.std.proofs.Common.{◌∙◌, subst, inl, inr, take_at, drop_at}
+use Rattle.std.proofs.Common.{◌∙◌, subst, take_at, drop_at}
 use mathlib.Core.List.{List, [], ◌∷◌, ◌++◌, map, flat_map, append_assoc}
 use native.Mathlib.Omega.{arith}
 use Rattle.std.proofs.Math.ListN.{get_or}
+use Rattle.std.proofs.lemmas.Simd.{map-map}
 use Rattle.port_tables.specs.Lists.{range, Member, Once, Rising}
 use Rattle.portgraph.specs.Lookups.{num_ports}
 use Rattle.portgraph.specs.Model as model
@@ -15,7 +16,7 @@ use Rattle.port_tables.specs.declared.node_entry.NodeMeta.{NodeMeta}
 use Rattle.multiportgraph.specs.Ends.{count_of_lem, ports_of_side_lem, outer_seen, ends_join_ends, place_of_sub}
 use Rattle.multiportgraph.specs.WellFormed.{inner#, Fine, BlockIs, Seen, lift}
 use Rattle.multiportgraph.specs.Listed.{end_numbers, wire_numbers, wires_listed, first_port, block_numbers, blocks_listed}
-use Rattle.port_tables.specs.Listing.{member_map, map_member, member_flat_map, rising_map}
+use Rattle.port_tables.specs.Listing.{member_map, map_member, map_same_on, member_flat_map, rising_map}
 use Rattle.multiportgraph.specs.ListReads.{blocks_length, wires_length}
 use Rattle.port_tables.specs.Places.{Place, spot}
 use Rattle.multi_tables.specs.Forms.{subport#}
@@ -195,13 +196,9 @@ module _ {m : MultiPortGraph} {M : Model} (f : Fine m M) where
       let b = end_shown_lem w.to l.into l.into_seen l.into_at Incoming l.into_side in
       λ j. record { out = a j; into = b j }
 
-map_map_same : {A B C : Type 0} (g : B → C) (f : A → B) (h : A → C) (l : List A) → ((x : A) → Member x l → g (f x) ≡ h x) → map g (map f l) ≡ map h l
-map_map_same g f h [] e = refl
-map_map_same g f h (x ∷ l) e = λ j. e x (inl refl) j ∷ map_map_same g f h l (λ y i. e y (inr i)) j
-
 module _ {m : MultiPortGraph} {M : Model} {B : Book} (r : Rel m M B) where
   wires_shown : map wire_shown (map (link_shown m) (all_wires m)) ≡ map (wire_places m) (all_wires m)
-  wires_shown = map_map_same wire_shown (link_shown m) (wire_places m) (all_wires m) (wire_shown_lem r.fine)
+  wires_shown = map-map wire_shown (link_shown m) (all_wires m) ∙ map_same_on (λ w. wire_shown (link_shown m w)) (wire_places m) (all_wires m) (wire_shown_lem r.fine)
 
   -- where the port of an end stands
   end_spot : (t : SubportIndex) (x : model.InnerPlace) → Seen m M x → slot_of M.node x ≡ t.port.0 → (d : Direction) → x.side ≡ d →

@@ -1,13 +1,13 @@
 -- What the proofs of the entry that writes views cite.
-use Rattle.std.specs.Prelude.{◌≡◌, ℕ, ◌+◌, ◌*◌, ◌%◌, ◌≤◌, ◌<◌}
-use Rattle.std.proofs.Math.Path.{refl, ap}
+use Rattle.std.specs.Prelude.{◌≡◌, ℕ, ◌+◌, ◌*◌, ◌≤◌}
+use Rattle.std.proofs.Math.Path.{ap}
 use Rattle.std.proofs.Common.{sym, ◌∙◌}
 use mathlib.Core.List.{List, [], ◌∷◌, ◌++◌}
 use native.Mathlib.Omega.{arith}
 use Rattle.std.proofs.Math.ListN.{length, drop, length-append}
 use Rattle.std.proofs.Math.Seq.{sets, length-sets}
 use Rattle.std.proofs.lemmas.List.Edits.{sets-eq}
-use borrow.Author.Tests.{eq-eqb, ne_eqb, le-leb, lt-leb}
+use borrow.Author.Tests.{le-leb}
 use Rattle.port_tables.specs.Limits.{node_slots, port_slots}
 use Rattle.portgraph.specs.Model.{Model}
 use Rattle.port_tables.specs.ResizeLinkSteps.{sets_append}
@@ -21,8 +21,7 @@ use Rattle.multiportgraph.specs.declared.multiportgraph.MultiPortGraph.{MultiPor
 use Rattle.records.specs.Words.{bytes_of}
 use Rattle.records.specs.WordLaws.{bytes_append, bytes_long}
 use Rattle.files.specs.SaveSteps.{visible_links_few}
-use Rattle.exports.specs.Exports.{refused_with, graph_left, list_whole}
-use Rattle.exports.specs.Viewed.{view_words, view_bytes, view_told, view_return, view_written}
+use Rattle.exports.specs.Viewed.{view_words, view_bytes}
 
 -- the words of a view in three parts
 view_parts : (x y : ℕ) (b w : List ℕ) → bytes_of (x ∷ y ∷ b ++ w) ≡ (bytes_of (x ∷ y ∷ []) ++ bytes_of b) ++ bytes_of w
@@ -53,13 +52,6 @@ module _ {m : MultiPortGraph} {M : Model} (f : Fine m M) where
   view_most = let w : MultiWf m = record { model = M; fine = f } in let a = few_blocks m w in let b = visible_links_few w in omega arith
 
   module _ (view : List ℕ) (blocks# wires# : ℕ) (areBlocks : blocks# ≡ visible_nodes m) (areWires : wires# ≡ visible_links m) where
-    pub view_short : length view < 8 + 16 * blocks# + 32 * wires# → (refused_with 15 ≡ view_told m view) × (view ≡ list_after (view_bytes m) view)
-    unfolding view_told list_after
-    view_short h =
-        let e = view_length in
-        let t = lt-leb (length (view_bytes m)) (length view) (omega arith) in
-        (rw t, rw t)
-
     module _ {view₁ view₂ view₃ : List ℕ} (is_first : view₁ ≡ sets view 0 (bytes_of (blocks# ∷ wires# ∷ [])))
         (isSecond : view₂ ≡ sets view₁ 8 (bytes_of (blocks_listed m))) (isThird : view₃ ≡ sets view₂ (8 + 16 * blocks#) (bytes_of (wires_listed m))) where
       view_laid : view₃ ≡ sets view 0 (view_bytes m)
@@ -81,24 +73,10 @@ module _ {m : MultiPortGraph} {M : Model} (f : Fine m M) where
           let third : view₃ ≡ sets view 0 ((u ++ b) ++ w) = isThird ∙ ((λ j. sets (second j) (z₂ j) w) ∙ sets_append view 0 (u ++ b) w) in
           third ∙ ap (sets view 0) (sym (view_parts (length (blocks m)) (length (all_wires m)) (blocks_listed m) (wires_listed m)))
 
-      pub view_done : 8 + 16 * blocks# + 32 * wires# ≤ length view → (8 + 16 * blocks# + 32 * wires# ≡ view_told m view) × (view₃ ≡ list_after (view_bytes m) view)
-      unfolding view_told list_after
+      pub view_done : 8 + 16 * blocks# + 32 * wires# ≤ length view → view₃ ≡ list_after (view_bytes m) view
+      unfolding list_after
       view_done h =
           let n = view_length in
           let t = le-leb (length (view_bytes m)) (length view) (omega arith) in
           let z : 0 + length (view_bytes m) ≡ length (view_bytes m) = omega arith in
-          (rw t (omega arith), rw t (view_laid ∙ (sets-eq (view_bytes m) view 0 (omega arith) ∙ ap (λ (k : ℕ). view_bytes m ++ drop k view) z)))
-
--- The entry.
-
-module _ (requests view : List ℕ) where
-  pub view_odd : (length requests % 20 ≡ 0 → ⊥) → (refused_with 1 ≡ view_return requests view) × (view ≡ view_written requests view)
-  unfolding view_return view_written list_whole
-  view_odd h = rw (ne_eqb (length requests % 20) 0 h) (refl, refl)
-
-  pub view_whole : (m : MultiPortGraph) (r : ℕ) (view' : List ℕ) → length requests % 20 ≡ 0 → m ≡ graph_left requests
-      → (r ≡ view_told m view) × (view' ≡ list_after (view_bytes m) view) → (r ≡ view_return requests view) × (view' ≡ view_written requests view)
-  unfolding view_return view_written list_whole
-  view_whole m r view' h e (a, b) =
-      rw (eq-eqb (length requests % 20) 0 h)
-      (a ∙ ap (λ (k : MultiPortGraph). view_told k view) e, b ∙ ap (λ (k : MultiPortGraph). list_after (view_bytes k) view) e)
+          rw t (view_laid ∙ (sets-eq (view_bytes m) view 0 (omega arith) ∙ ap (λ (k : ℕ). view_bytes m ++ drop k view) z))

@@ -12,7 +12,7 @@ use records::words::put_words;
 
 // Lays a request of a code for each two numbers; answers the place after them.
 // The code stays a number, as in a request of `records`. Laid by place: of chunks that are lent to be written, a proof keeps the length alone.
-#[tactic(auto, using(crate::specs::LoadedSteps::requests_counted))]
+#[tactic(auto, using(crate::specs::LoadedSteps::requests_counted, crate::specs::LoadedSteps::requests_end))]
 fn put_requests(requests: &mut [u8], at: usize, code: u32, numbers: &[u32]) -> usize
     requires { at + length (pair_requests code numbers.now) ≤ length requests.old }
     ensures { (result ≡ at + length (pair_requests code numbers.now))
@@ -38,7 +38,7 @@ pub(crate) fn error_told(error: LoadError) -> u64
 // Lays the adds and links that build the wiring of a file for release 1, as requests, so that a list which begins with them goes on from the loaded graph. Their length,
 // or 4,294,967,296 and the refusal: 16 and 17 as loading gives them, 3 or 10 as the first add or link that is refused, 15 if the buffer is too short. A buffer
 // of a refused file stays as it was.
-#[tactic(auto, using(crate::specs::LoadedSteps::adds_few, crate::specs::LoadedSteps::links_few))]
+#[tactic(auto, using(crate::specs::LoadedSteps::adds_few, crate::specs::LoadedSteps::links_few, crate::specs::LoadedSteps::first_many, crate::specs::LoadedSteps::first_room, crate::specs::LoadedSteps::second_room, crate::specs::LoadedSteps::loaded, crate::specs::LoadedSteps::whole_long), unfolding(crate::specs::Exports::records_return, crate::specs::Exports::records_written, multiportgraph::specs::Listed::list_after))]
 pub fn records_of_file(file: &[u8], requests: &mut [u8]) -> u64
     ensures { (result ≡ records_return file.now requests.old)
         × (requests.new ≡ records_written file.now requests.old) }

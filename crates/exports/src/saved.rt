@@ -20,6 +20,7 @@ fn save_told(answer: Result<usize, BufferShort>) -> u64
 
 // Runs a list of requests from an empty graph of release 1, past refused calls, and writes the file of the graph that it leaves. The file's length, or
 // 4,294,967,296 and the refusal: 1 if the length of the list is not a multiple of 20, 15 if the buffer is too short, which then stays as it was.
+#[tactic(auto, unfolding(crate::specs::Exports::save_return, crate::specs::Exports::save_written, crate::specs::Exports::list_whole))]
 pub fn save_records(requests: &[u8], file: &mut [u8]) -> u64
     ensures { (result ≡ save_return requests.now file.old)
         × (file.new ≡ save_written requests.now file.old) }

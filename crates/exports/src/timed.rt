@@ -57,6 +57,7 @@ fn path_told(listed: Result<PathListed, LongestError>, room: usize) -> u64
 // Runs a list of requests from an empty graph of release 1, past refused calls, and answers the largest sum of times along wires that end at a block of the graph that
 // it leaves, the block's own time included; or 4,294,967,296 and the refusal: 1 if the length of the list is not a multiple of 20, 4 or 5 if the number names no block,
 // 19 if there are not 1,024 times, 20 if a cycle can reach the block.
+#[tactic(auto, unfolding(crate::specs::Timed::longest_return, crate::specs::Exports::list_whole))]
 pub fn longest_of_records<'a>(requests: &'a [u8], times: &'a [u16], block: u32) -> u64
     ensures { result ≡ longest_return requests.now times.now block }
 {
@@ -68,6 +69,7 @@ pub fn longest_of_records<'a>(requests: &'a [u8], times: &'a [u16], block: u32) 
 
 // The same question, answered by the blocks along wires that have this sum, from the first to the one named, at the start of the lent list. How many they are, or
 // 4,294,967,296 and the refusal: those of the sum, then 15 if the list is too short: 1,024 numbers are enough. A list of a refused question stays as it was.
+#[tactic(auto, unfolding(crate::specs::Timed::path_return, crate::specs::Timed::path_written, crate::specs::Exports::list_whole))]
 pub fn path_of_records<'a>(
     requests: &'a [u8],
     times: &'a [u16],

@@ -47,7 +47,7 @@ fn put_wires(left: &MultiPortGraph, view: &mut [u8], at: usize)
 }
 
 // Writes the view of a lent graph and answers its length, or 4,294,967,296 and 15 if the buffer is too short, which then stays as it was.
-#[tactic(auto, using(multiportgraph::specs::ListReads::few_blocks, files::specs::SaveSteps::visible_links_few, crate::specs::ViewedSteps::counts_long, crate::specs::ViewedSteps::listing_long))]
+#[tactic(auto, using(multiportgraph::specs::ListReads::few_blocks, files::specs::SaveSteps::visible_links_few, crate::specs::ViewedSteps::counts_long, crate::specs::ViewedSteps::listing_long, crate::specs::ViewedSteps::view_length, crate::specs::ViewedSteps::view_done), unfolding(crate::specs::Viewed::view_told, multiportgraph::specs::Listed::list_after))]
 fn view_in(left: &MultiPortGraph, view: &mut [u8]) -> u64
     requires { MultiWf left.now }
     ensures { (result ≡ view_told left.now view.old)
@@ -70,6 +70,7 @@ fn view_in(left: &MultiPortGraph, view: &mut [u8]) -> u64
 // of blocks and wires; then for each block, by ascending number, node, incoming, outgoing and first port; then for each wire, in the order of the list of all wires,
 // port, offset, node and position of its outgoing end and of its incoming end. The view's length, or 4,294,967,296 and the refusal: 1 if the length of the list is not a
 // multiple of 20, 15 if the buffer is too short, which then stays as it was.
+#[tactic(auto, unfolding(crate::specs::Viewed::view_return, crate::specs::Viewed::view_written, crate::specs::Exports::list_whole))]
 pub fn view_of_records(requests: &[u8], view: &mut [u8]) -> u64
     ensures { (result ≡ view_return requests.now view.old)
         × (view.new ≡ view_written requests.now view.old) }

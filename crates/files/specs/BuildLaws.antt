@@ -1,5 +1,5 @@
 -- Laws of building: a view whose adds and links are all accepted is the view of the graph that they build.
-use Rattle.std.specs.Prelude.{◌≡◌, refl, Bool, List, [], ◌∷◌, ◌++◌, map, ◌⊎◌, ℕ, zero, suc, ◌+◌, ◌<◌, ltb, length, get_or, Result, Ok, Err}
+use Rattle.std.specs.Prelude.{◌≡◌, refl, Bool, false, is_ok, List, [], ◌∷◌, ◌++◌, map, ◌⊎◌, ℕ, zero, suc, ◌+◌, ◌<◌, ltb, length, Result, Ok, Err}
 use Rattle.std.proofs.Common.{sym, ap, ◌∙◌, subst, inl, inr, ⊎_elim, arith}
 use Rattle.port_tables.specs.Lists.{range, Member}
 use Rattle.std.specs.List.{filter}
@@ -8,6 +8,7 @@ use Rattle.portgraph.specs.GoodSlots.{zero_is_not_one}
 use Rattle.port_tables.specs.declared.direction.Direction.TheVariants.{Incoming, Outgoing}
 use Rattle.port_tables.specs.Listing.{length_range}
 use Rattle.multiportgraph.specs.Graph.{empty_graph}
+use Rattle.multiportgraph.specs.HiddenStays.{true_not_false}
 use Rattle.multiportgraph.specs.WellFormed.{inner#}
 use Rattle.port_tables.specs.Places.{Wire, spot, flag, next_offset}
 use Rattle.multiportgraph.specs.declared.multiportgraph.MultiPortGraph.{MultiPortGraph}
@@ -26,7 +27,7 @@ use Rattle.files.specs.View.{BlockPorts, RankWire, View, rank_wire, view_of}
 use Rattle.files.specs.Loading.{block_at, first_port, out_port, in_port, add_of, link_of, build_of, after_call, first_refusal, first_refusal_under}
 use Rattle.files.specs.Claims.{rank_in, same_wire, how_many, wires_between, HasBlock, At, Sound}
 use Rattle.files.specs.OrderLaws.{wires_by_counts}
-use Rattle.files.specs.RankLaws.{same_positions}
+use Rattle.files.specs.RankLaws.{at_below, at_get, same_positions}
 use Rattle.files.specs.ViewLaws.{blocks_viewed, wires_viewed}
 use Rattle.files.specs.WiringLaws.{wires_rise}
 use Rattle.files.specs.NextSlots.{block_from, NextSlots, next_slots}
@@ -53,28 +54,45 @@ goes_or_stops (book.tidy_call p) v = inl (λ rest. refl)
 pub refused_not_loaded : (r : Refusal) → ◌≡◌ {A = Result (Unit {0}) LoadError} (Err (Refused r)) (Ok tt) → ⊥
 refused_not_loaded r e = zero_is_not_one (cc)
 
--- all of two lists are accepted: all of the first, and then all of the second
-pub accepted_apart : (s : State) (a b : List Call) → first_refusal s.graph (a ++ b) ≡ Ok tt → (first_refusal s.graph a ≡ Ok tt) × (first_refusal (run_from s a).graph b ≡ Ok tt)
-unfolding first_refusal_under run_from_under
-accepted_apart s [] b e = (refl, e)
-accepted_apart s (c ∷ a) b e =
+-- a list of calls is accepted or refused
+pub loaded_or_refused : (calls : List Call) (m : MultiPortGraph) → (first_refusal m calls ≡ Ok tt) ⊎ ((r : Refusal) × (first_refusal m calls ≡ Err (Refused r)))
+unfolding first_refusal_under
+loaded_or_refused [] m = inl refl
+loaded_or_refused (c ∷ l) m =
     ⊎_elim
-    (λ goes. let k = accepted_apart (next s c) a b (sym (goes _) ∙ e) in (goes _ ∙ k.0, k.1))
+    (λ goes. ⊎_elim (λ e. inl (goes _ ∙ e)) (λ k. inr (k.0, goes _ ∙ k.1)) (loaded_or_refused l (step m c).graph))
+    (λ stops. inr (stops.0, stops.2 _))
+    (goes_or_stops c (step m c).answer)
+
+-- of two lists one after the other the second tells where all of the first are accepted,
+pub refusal_after : (s : State) (a b : List Call) → first_refusal s.graph a ≡ Ok tt → first_refusal s.graph (a ++ b) ≡ first_refusal (run_from s a).graph b
+unfolding first_refusal_under run_from_under
+refusal_after s [] b e = refl
+refusal_after s (c ∷ a) b e =
+    ⊎_elim
+    (λ goes. goes _ ∙ refusal_after (next s c) a b (sym (goes _) ∙ e))
     (λ stops. absurd (refused_not_loaded stops.0 (sym (stops.2 _) ∙ e)))
     (goes_or_stops c (step s.graph c).answer)
 
+-- and else the first does
+pub first_refused : (m : MultiPortGraph) (a b : List Call) → is_ok (first_refusal m a) ≡ false → first_refusal m (a ++ b) ≡ first_refusal m a
+unfolding first_refusal_under
+first_refused m [] b h = absurd (true_not_false refl h)
+first_refused m (c ∷ a) b h =
+    ⊎_elim
+    (λ goes. goes _ ∙ (first_refused (step m c).graph a b (ap is_ok (sym (goes _)) ∙ h) ∙ sym (goes _)))
+    (λ stops. stops.2 _ ∙ sym (stops.2 _))
+    (goes_or_stops c (step m c).answer)
+
+-- all of two lists are accepted: all of the first, and then all of the second
+pub accepted_apart : (s : State) (a b : List Call) → first_refusal s.graph (a ++ b) ≡ Ok tt → (first_refusal s.graph a ≡ Ok tt) × (first_refusal (run_from s a).graph b ≡ Ok tt)
+accepted_apart s a b e =
+    ⊎_elim
+    (λ k. (k, sym (refusal_after s a b k) ∙ e))
+    (λ k. absurd (refused_not_loaded k.0 (sym (first_refused s.graph a b (ap is_ok k.1) ∙ k.1) ∙ e)))
+    (loaded_or_refused a s.graph)
+
 -- Blocks by rank.
-
-module _ {A : Type 0} where
-  pub at_below : (l : List A) (r : ℕ) (x : A) → At l r x → r < length l
-  at_below [] r x never = absurd never
-  at_below (y ∷ l) zero x h = omega arith
-  at_below (y ∷ l) (suc r) x h = let k = at_below l r x h in omega arith
-
-  pub at_get : (l : List A) (r : ℕ) (d : A) → r < length l → At l r (get_or l r d)
-  at_get [] r d h = absurd (omega arith)
-  at_get (y ∷ l) zero d h = refl
-  at_get (y ∷ l) (suc r) d h = at_get l r d (omega arith)
 
 -- equal ranges are as long, and begin at the same number if they have one
 pub range_known : (a k b l : ℕ) → range a k ≡ range b l → (k ≡ l) × (0 < k → a ≡ b)

@@ -1,5 +1,5 @@
 -- When the build of a view is refused: the first block or wire that is not to be had, and why.
-use Rattle.std.specs.Prelude.{◌≡◌, refl, ◌⊎◌, ◌↔◌, ℕ, suc, ◌+◌, ◌≤◌, ◌<◌, length, Result, Ok, Err}
+use Rattle.std.specs.Prelude.{◌≡◌, refl, ◌⊎◌, ◌↔◌, ℕ, suc, ◌+◌, ◌≤◌, ◌<◌, length, Result, Ok, Err, is_ok}
 use Rattle.std.proofs.Common.{sym, ◌∙◌, arith, length-append}
 use Rattle.std.proofs.Math.Path.{ap, subst}
 use mathlib.Core.List.{List, [], ◌∷◌, ◌++◌, map, map-append}
@@ -8,7 +8,6 @@ use Rattle.port_tables.specs.Limits.{node_slots, port_slots, node_ports}
 use Rattle.port_tables.specs.Lists.{Member}
 use Rattle.portgraph.specs.Model.{Model}
 use Rattle.portgraph.specs.Meaning.{growth}
-use Rattle.portgraph.specs.GoodSlots.{zero_is_not_one}
 use Rattle.portgraph.specs.GoodLaws.{empty_model}
 use Rattle.port_tables.specs.declared.direction.Direction.TheVariants.{Incoming, Outgoing}
 use Rattle.multiportgraph.specs.Calls.{add_block, link_pair}
@@ -18,7 +17,6 @@ use Rattle.port_tables.specs.Listing.{member_left, member_right}
 use Rattle.port_tables.specs.Places.{Wire}
 use Rattle.multiportgraph.specs.LinkCutLaws.{fine_empty}
 use Rattle.multiportgraph.specs.SpaceLaws.{link_space}
-use Rattle.multiportgraph.specs.declared.multiportgraph.MultiPortGraph.{MultiPortGraph}
 use Rattle.port_tables.specs.declared.release.Release.{Release}
 use Rattle.port_tables.specs.declared.release.Release.TheVariants.{Two}
 use Rattle.multiportgraph.specs.declared.multiportgraph.NodeAdded.{NodeAdded}
@@ -35,10 +33,10 @@ use Rattle.theorems.proofs.CallLaws.{rel_run}
 use Rattle.theorems.proofs.ReleaseRuns.{release_kept}
 use Rattle.files.specs.View.{BlockPorts, RankWire, View}
 use Rattle.files.specs.Loading.{first_port, out_port, in_port, add_of, link_of, build_of, after_call, first_refusal, first_refusal_under}
-use Rattle.files.specs.Claims.{At, same_wire, how_many, Sound}
+use Rattle.files.specs.Claims.{same_wire, how_many, Sound}
 use Rattle.files.specs.LoadClaims.{with_first, SameInput, SharesInput, BuildRefused, build_many, build_no_block, build_wired, build_no_wire}
-use Rattle.files.specs.NextSlots.{NoFree, block_from, none_free_at_first, AddsLaid, adds_laid, next_slots}
-use Rattle.files.specs.BuildLaws.{range_known, goes_or_stops, refused_not_loaded, accepted_apart, Runs, HasAll, source_port, target_port, links_entered, sound_runs}
+use Rattle.files.specs.NextSlots.{NoFree, none_free_at_first, AddsLaid, adds_laid, next_slots}
+use Rattle.files.specs.BuildLaws.{goes_or_stops, refused_not_loaded, loaded_or_refused, refusal_after, first_refused, accepted_apart, Runs, HasAll, source_port, target_port, links_entered, sound_runs}
 use Rattle.files.specs.InputLaws.{plain, link_refusals, taken_refused, taken_by, by_taken}
 use Rattle.files.specs.declared.load.LoadError.{LoadError}
 use Rattle.files.specs.declared.load.LoadError.TheVariants.{Refused}
@@ -51,44 +49,12 @@ use Rattle.multi_tables.specs.declared.answers.SubportIndex.{SubportIndex}
 same_refusal : {r t : Refusal} → ◌≡◌ {A = Result (Unit {0}) LoadError} (Err (Refused r)) (Err (Refused t)) → r ≡ t
 same_refusal e = cc
 
-loaded_not_refused : (r : Refusal) → ◌≡◌ {A = Result (Unit {0}) LoadError} (Ok tt) (Err (Refused r)) → ⊥
-loaded_not_refused r e = zero_is_not_one (cc)
-
--- a list of calls is accepted or refused
-pub loaded_or_refused : (calls : List Call) (m : MultiPortGraph) → (first_refusal m calls ≡ Ok tt) ⊎ ((r : Refusal) × (first_refusal m calls ≡ Err (Refused r)))
-unfolding first_refusal_under
-loaded_or_refused [] m = inl refl
-loaded_or_refused (c ∷ l) m =
-    ⊎_elim
-    (λ goes. ⊎_elim (λ e. inl (goes _ ∙ e)) (λ k. inr (k.0, goes _ ∙ k.1)) (loaded_or_refused l (step m c).graph))
-    (λ stops. inr (stops.0, stops.2 _))
-    (goes_or_stops c (step m c).answer)
-
--- of two lists one after the other
-pub refusal_after : (s : State) (a b : List Call) → first_refusal s.graph a ≡ Ok tt → first_refusal s.graph (a ++ b) ≡ first_refusal (run_from s a).graph b
-unfolding first_refusal_under run_from_under
-refusal_after s [] b e = refl
-refusal_after s (c ∷ a) b e =
-    ⊎_elim
-    (λ goes. goes _ ∙ refusal_after (next s c) a b (sym (goes _) ∙ e))
-    (λ stops. absurd (refused_not_loaded stops.0 (sym (stops.2 _) ∙ e)))
-    (goes_or_stops c (step s.graph c).answer)
-
-pub refusal_before : (s : State) (a b : List Call) (r : Refusal) → first_refusal s.graph a ≡ Err (Refused r) → first_refusal s.graph (a ++ b) ≡ Err (Refused r)
-unfolding first_refusal_under
-refusal_before s [] b r e = absurd (loaded_not_refused r e)
-refusal_before s (c ∷ a) b r e =
-    ⊎_elim
-    (λ goes. goes _ ∙ refusal_before (next s c) a b r (sym (goes _) ∙ e))
-    (λ stops. stops.2 _ ∙ (sym (stops.2 _) ∙ e))
-    (goes_or_stops c (step s.graph c).answer)
-
 refused_apart : (s : State) (a b : List Call) (r : Refusal) → first_refusal s.graph (a ++ b) ≡ Err (Refused r) →
     (first_refusal s.graph a ≡ Err (Refused r)) ⊎ ((first_refusal s.graph a ≡ Ok tt) × (first_refusal (run_from s a).graph b ≡ Err (Refused r)))
 refused_apart s a b r e =
     ⊎_elim
     (λ k. inr (k, sym (refusal_after s a b k) ∙ e))
-    (λ k. inl (k.1 ∙ (sym (refusal_before s a b k.0 k.1) ∙ e)))
+    (λ k. inl (sym (first_refused s.graph a b (ap is_ok k.1)) ∙ e))
     (loaded_or_refused a s.graph)
 
 -- the item of a list at which its calls stop
@@ -103,7 +69,7 @@ record Stop {A : Type 0} (f : A → Call) (s : State) (xs : List A) (r : Refusal
 module _ {A : Type 0} (f : A → Call) where
   first_stop : (xs : List A) (s : State) (r : Refusal) → first_refusal s.graph (map f xs) ≡ Err (Refused r) → Stop f s xs r
   unfolding first_refusal_under run_from_under
-  first_stop [] s r e = absurd (loaded_not_refused r e)
+  first_stop [] s r e = absurd (refused_not_loaded r (sym e))
   first_stop (x ∷ xs) s r e =
       ⊎_elim
       (λ goes.
@@ -297,7 +263,9 @@ module _ (release : Release) (v : View) where
       ⊎ ((first_refusal (empty_graph release) (map add_of v.blocks) ≡ Ok tt) × Stop (link_of v.blocks) (run release (map add_of v.blocks)) v.wires r) →
       first_refusal (empty_graph release) (build_of v) ≡ Err (Refused r)
   unfolding build_of run_under
-  stops_build r (inl t) = refusal_before (start release) (map add_of v.blocks) (map (link_of v.blocks) v.wires) r (stop_refuses add_of add_stops v.blocks (start release) r t)
+  stops_build r (inl t) =
+      let e = stop_refuses add_of add_stops v.blocks (start release) r t in
+      first_refused (empty_graph release) (map add_of v.blocks) (map (link_of v.blocks) v.wires) (ap is_ok e) ∙ e
   stops_build r (inr t) =
       refusal_after (start release) (map add_of v.blocks) (map (link_of v.blocks) v.wires) t.0
       ∙ stop_refuses (link_of v.blocks) (link_stops v.blocks) v.wires (run release (map add_of v.blocks)) r t.1
@@ -417,30 +385,3 @@ fitting_added release bs h = ⊎_elim (λ e. e) (λ k. absurd (never k.0 (first_
         let d = ap (λ (l : List BlockPorts). first_port l (length l)) t.is in
         ⊎_elim (λ z. omega arith) (λ z. omega arith) k.2)
         (add_ends release t.first t.item t.accepted r t.refused)
-
-member_at : {A : Type 0} (x : A) (l : List A) → Member x l → (r : ℕ) × At l r x
-member_at {A = A} x [] never = absurd never
-member_at x (y ∷ l) (inl e) = (0, e)
-member_at x (y ∷ l) (inr i) = let h = member_at x l i in (suc h.0, h.1)
-
-pub added_fit : (release : Release) (bs : List BlockPorts) → first_refusal (empty_graph release) (map add_of bs) ≡ Ok tt → BlocksFit bs
-added_fit release bs e =
-    let s = next_slots release bs e in
-    let r = (rel_run release (map add_of bs)).1 in
-    record {
-      few = λ b i.
-          let h = member_at b bs i in
-          let t = r.blocks.right (block_from h.0 (first_port bs h.0) b) (s.has h.0 b h.1) in
-          let k = t.0 in
-          let x = (range_known (first_port bs h.0) b.incoming k.first_port.0 k.incoming t.2).0 in
-          let y = (range_known (first_port bs h.0 + b.incoming) b.outgoing (k.first_port.0 + k.incoming) k.outgoing t.3).0 in
-          let u = r.fine.good.ports_in_block h.0 k t.1.1 in
-          let v = r.fine.good.block_small h.0 k t.1.1 in
-          omega arith;
-      nodes = s.nodes_fit;
-      ports = s.ports_fit;
-    }
-
--- The adds of a build are all accepted exactly if its blocks fit.
-pub blocks_added : (release : Release) (bs : List BlockPorts) → (first_refusal (empty_graph release) (map add_of bs) ≡ Ok tt) ↔ BlocksFit bs
-blocks_added release bs = (added_fit release bs, fitting_added release bs)

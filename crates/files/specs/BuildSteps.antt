@@ -3,29 +3,27 @@
 use Rattle.std.specs.Option.{ok_or}
 use Rattle.std.specs.Result.{result_and, result_unwrap_or}
 use Rattle.std.specs.List.{list_all}
-use Rattle.std.specs.Prelude.{◌≡◌, refl, Bool, true, false, cond, ◌&&◌, List, [], ◌∷◌, ◌++◌, map, ℕ, zero, suc, ◌+◌, ◌*◌, ◌%◌, ◌≤◌, ◌<◌, eqb, ltb, length, get_or, set, drop, Option, Some, None, Result, Ok, Err, is_ok, IsErrAnd, MatchOption, MatchResult}
+use Rattle.std.specs.Prelude.{◌≡◌, refl, Bool, true, false, cond, ◌&&◌, List, [], ◌∷◌, ◌++◌, map, ℕ, suc, ◌+◌, ◌*◌, ◌%◌, ◌≤◌, ◌<◌, eqb, ltb, length, get_or, set, drop, Option, Some, None, Result, Ok, Err, is_ok, IsErrAnd, MatchOption, MatchResult}
 use Rattle.std.proofs.Math.Path.{sym, ap, subst}
-use Rattle.std.proofs.Common.{◌∙◌, arith, drop_of_length-le, length-set, drop-cons, get_or-set_same, get_or-set_other, ltb-true, eqb-true}
-use Rattle.std.proofs.lemmas.Bool.{eqb-false}
+use Rattle.std.proofs.Common.{◌∙◌, ⊎_elim, arith, drop_of_length-le, length-set, drop-cons, get_or-set_same, get_or-set_other, ltb-true, eqb-true}
+use Rattle.std.proofs.lemmas.Bool.{and_parts, eqb-false}
+use Rattle.std.proofs.lemmas.List.Sums.{AllPass-from_list_all}
 use Rattle.port_tables.specs.Limits.{node_slots}
 use Rattle.multiportgraph.specs.Calls.{add_block, link_pair}
-use Rattle.multiportgraph.specs.CountLaws.{visible_nodes_lem}
 use Rattle.multiportgraph.specs.HiddenStays.{true_not_false}
 use Rattle.multiportgraph.specs.Graph.{empty_graph}
 use Rattle.multiportgraph.specs.WellFormed.{MultiWf}
 use Rattle.multiportgraph.specs.declared.multiportgraph.MultiPortGraph.{MultiPortGraph}
 use Rattle.port_tables.specs.declared.release.Release.{Release}
-use Rattle.theorems.specs.Book as book
-use Rattle.theorems.specs.Book.{Call, AnswerOf, Book, empty_book, book_add}
+use Rattle.theorems.specs.Book.{Call, AnswerOf, empty_book}
 use Rattle.theorems.specs.History.{step, State, next, run_from, run_from_under, run, run_under}
-use Rattle.theorems.proofs.HistoryCounts.{visible_nodes_of_history}
-use Rattle.theorems.proofs.CallLaws.{empty_kept, step_kept, rel_run}
+use Rattle.theorems.proofs.CallLaws.{empty_kept, step_kept}
 use Rattle.files.specs.View.{BlockPorts, RankWire, View}
 use Rattle.files.specs.Layout.{Record, block_of, wire_of, units_for, unbytes}
 use Rattle.files.specs.Loading.{unit_list, units_right, is_laid, ranks_right, block_at, positions_right, order_right, view_right, first_port, out_port, in_port, add_of, link_of, build_of, after_call, first_refusal, first_refusal_under, graph_if, is_whole, load_answer, load_answer_under, load_graph, load_graph_under}
-use Rattle.files.specs.LaidLaws.{both_true}
 use Rattle.files.specs.Merging.{layout_answer}
-use Rattle.files.specs.NextSlots.{first_port_first, first_port_next}
+use Rattle.files.specs.NextSlots.{next_slots, first_port_first, first_port_next}
+use Rattle.files.specs.BuildLaws.{goes_or_stops, refusal_after, first_refused}
 use Rattle.files.specs.LoadForms.{place_of, record_in, no_wire, BlocksRead, WiresRead, ShapeIs, Laid, graph_after, StepIs, StepStops, Built, Firsts, Linkable}
 use Rattle.files.specs.declared.load.LoadError.{LoadError}
 use Rattle.files.specs.declared.check.Shape.{Shape}
@@ -35,7 +33,6 @@ use Rattle.port_tables.specs.declared.index.NodeIndex.{NodeIndex}
 use Rattle.port_tables.specs.declared.index.PortIndex.{PortIndex}
 use Rattle.multi_tables.specs.declared.answers.Refusal.{Refusal}
 use Rattle.multi_tables.specs.declared.answers.SubportIndex.{SubportIndex}
-use Rattle.multiportgraph.specs.WalkRule.{blocks_are_few}
 
 -- What a `?` passes on.
 
@@ -46,66 +43,31 @@ err_says P Q (Err x) h q = subst Q (sym h) q
 -- One call.
 
 after_loaded : (c : Call) (v : AnswerOf c) (rest : Result (Unit {0}) LoadError) → is_ok (after_call c v (Ok tt)) ≡ true → after_call c v rest ≡ rest
-after_loaded (book.add_call i o) (Ok (n, p)) rest h = refl
-after_loaded (book.add_call i o) (Err r) rest h = absurd (true_not_false h refl)
-after_loaded (book.remove_call n) v rest h = refl
-after_loaded (book.set_call n i o room) v rest h = refl
-after_loaded (book.link_call a b) (Ok (s, t)) rest h = refl
-after_loaded (book.link_call a b) (Err r) rest h = absurd (true_not_false h refl)
-after_loaded (book.link_clean_call a b) v rest h = refl
-after_loaded (book.link_sub_call p o q r) v rest h = refl
-after_loaded (book.cut_call p) v rest h = refl
-after_loaded (book.cut_sub_call p o) v rest h = refl
-after_loaded (book.tidy_call p) v rest h = refl
+after_loaded c v rest h = ⊎_elim (λ goes. goes rest) (λ stops. absurd (true_not_false h (ap is_ok (stops.2 (Ok tt))))) (goes_or_stops c v)
 
 after_refused : (c : Call) (v : AnswerOf c) (rest : Result (Unit {0}) LoadError) → is_ok (after_call c v (Ok tt)) ≡ false → after_call c v rest ≡ after_call c v (Ok tt)
-after_refused (book.add_call i o) (Ok (n, p)) rest h = absurd (true_not_false refl h)
-after_refused (book.add_call i o) (Err r) rest h = refl
-after_refused (book.remove_call n) v rest h = absurd (true_not_false refl h)
-after_refused (book.set_call n i o room) v rest h = absurd (true_not_false refl h)
-after_refused (book.link_call a b) (Ok (s, t)) rest h = absurd (true_not_false refl h)
-after_refused (book.link_call a b) (Err r) rest h = refl
-after_refused (book.link_clean_call a b) v rest h = absurd (true_not_false refl h)
-after_refused (book.link_sub_call p o q r) v rest h = absurd (true_not_false refl h)
-after_refused (book.cut_call p) v rest h = absurd (true_not_false refl h)
-after_refused (book.cut_sub_call p o) v rest h = absurd (true_not_false refl h)
-after_refused (book.tidy_call p) v rest h = absurd (true_not_false refl h)
+after_refused c v rest h = ⊎_elim (λ goes. absurd (true_not_false (ap is_ok (goes (Ok tt))) h)) (λ stops. stops.2 rest ∙ sym (stops.2 (Ok tt))) (goes_or_stops c v)
 
-add_done : {v : Result (NodeIndex × PortIndex) Refusal} {x : NodeIndex × PortIndex} (i o : ℕ) → v ≡ Ok x → after_call (book.add_call i o) v (Ok tt) ≡ Ok tt
-add_done i o h = ap (λ (z : Result (NodeIndex × PortIndex) Refusal). after_call (book.add_call i o) z (Ok tt)) h
+module _ (m : MultiPortGraph) (c : Call) {v u : AnswerOf c} (e : v ≡ (step m c).answer) (t : v ≡ u) where
+  step_is : MultiWf m → {m' : MultiPortGraph} → m' ≡ (step m c).graph → after_call c u (Ok tt) ≡ Ok tt → StepIs m c m'
+  step_is w g h = record { graph = g; told = ap (λ (x : AnswerOf c). after_call c x (Ok tt)) (sym e ∙ t) ∙ h; kept = subst MultiWf (sym g) (step_kept m c w) }
 
-add_refused : {v : Result (NodeIndex × PortIndex) Refusal} {r : Refusal} (i o : ℕ) → v ≡ Err r → after_call (book.add_call i o) v (Ok tt) ≡ Err (Refused r)
-add_refused i o h = ap (λ (z : Result (NodeIndex × PortIndex) Refusal). after_call (book.add_call i o) z (Ok tt)) h
+  step_stops : {told : LoadError} → after_call c u (Ok tt) ≡ Err told → StepStops m c told
+  step_stops h = ap (λ (x : AnswerOf c). after_call c x (Ok tt)) (sym e ∙ t) ∙ h
 
-link_done : {v : Result (SubportIndex × SubportIndex) Refusal} {x : SubportIndex × SubportIndex} (a b : ℕ) → v ≡ Ok x → after_call (book.link_call a b) v (Ok tt) ≡ Ok tt
-link_done a b h = ap (λ (z : Result (SubportIndex × SubportIndex) Refusal). after_call (book.link_call a b) z (Ok tt)) h
-
-link_refused : {v : Result (SubportIndex × SubportIndex) Refusal} {r : Refusal} (a b : ℕ) → v ≡ Err r → after_call (book.link_call a b) v (Ok tt) ≡ Err (Refused r)
-link_refused a b h = ap (λ (z : Result (SubportIndex × SubportIndex) Refusal). after_call (book.link_call a b) z (Ok tt)) h
-
-module _ (m : MultiPortGraph) (b : BlockPorts) {i o : ℕ} {v : Result (NodeIndex × PortIndex) Refusal} (p : i ≡ b.incoming) (q : o ≡ b.outgoing) (e : v ≡ (add_block m i o).answer) where
-  add_answered : after_call (add_of b) v (Ok tt) ≡ after_call (add_of b) (step m (add_of b)).answer (Ok tt)
-  add_answered = ap (λ (x : Result (NodeIndex × PortIndex) Refusal). after_call (add_of b) x (Ok tt)) (e ∙ (λ j. (add_block m (p j) (q j)).answer))
-
-  pub add_stepped : MultiWf m → {m' : MultiPortGraph} → m' ≡ (add_block m i o).graph → {x : NodeIndex × PortIndex} → v ≡ Ok x → StepIs m (add_of b) m'
-  add_stepped w {m'} g t =
-      let k : m' ≡ (step m (add_of b)).graph = g ∙ (λ j. (add_block m (p j) (q j)).graph) in
-      record { graph = k; told = sym add_answered ∙ add_done b.incoming b.outgoing t; kept = subst MultiWf (sym k) (step_kept m (add_of b) w) }
-
-  pub add_stops : {r : Refusal} → v ≡ Err r → {told : LoadError} → told ≡ Refused r → StepStops m (add_of b) told
-  add_stops t h = sym add_answered ∙ (add_refused b.incoming b.outgoing t ∙ ap Err (sym h))
+pub add_stepped : (m : MultiPortGraph) (b : BlockPorts) {i o : ℕ} {v : Result (NodeIndex × PortIndex) Refusal} → i ≡ b.incoming → o ≡ b.outgoing → v ≡ (add_block m i o).answer →
+    MultiWf m → {m' : MultiPortGraph} → m' ≡ (add_block m i o).graph → {x : NodeIndex × PortIndex} → v ≡ Ok x → StepIs m (add_of b) m'
+add_stepped m b p q e w g t = step_is m (add_of b) (e ∙ (λ j. (add_block m (p j) (q j)).answer)) t w (g ∙ (λ j. (add_block m (p j) (q j)).graph)) refl
 
 module _ (m : MultiPortGraph) (blocks : List BlockPorts) (w : RankWire) {x y : ℕ} {v : Result (SubportIndex × SubportIndex) Refusal} (p : x ≡ out_port blocks w) (q : y ≡ in_port blocks w) (e : v ≡ (link_pair m x y).answer) where
-  link_answered : after_call (link_of blocks w) v (Ok tt) ≡ after_call (link_of blocks w) (step m (link_of blocks w)).answer (Ok tt)
-  link_answered = ap (λ (z : Result (SubportIndex × SubportIndex) Refusal). after_call (link_of blocks w) z (Ok tt)) (e ∙ (λ j. (link_pair m (p j) (q j)).answer))
+  link_answered : v ≡ (step m (link_of blocks w)).answer
+  link_answered = e ∙ (λ j. (link_pair m (p j) (q j)).answer)
 
   pub link_stepped : MultiWf m → {m' : MultiPortGraph} → m' ≡ (link_pair m x y).graph → {z : SubportIndex × SubportIndex} → v ≡ Ok z → StepIs m (link_of blocks w) m'
-  link_stepped wf {m'} g t =
-      let k : m' ≡ (step m (link_of blocks w)).graph = g ∙ (λ j. (link_pair m (p j) (q j)).graph) in
-      record { graph = k; told = sym link_answered ∙ link_done (out_port blocks w) (in_port blocks w) t; kept = subst MultiWf (sym k) (step_kept m (link_of blocks w) wf) }
+  link_stepped wf g t = step_is m (link_of blocks w) link_answered t wf (g ∙ (λ j. (link_pair m (p j) (q j)).graph)) refl
 
   pub link_stops : {r : Refusal} → v ≡ Err r → {told : LoadError} → told ≡ Refused r → StepStops m (link_of blocks w) told
-  link_stops t h = sym link_answered ∙ (link_refused (out_port blocks w) (in_port blocks w) t ∙ ap Err (sym h))
+  link_stops t h = step_stops m (link_of blocks w) link_answered t (ap Err (sym h))
 
 -- Calls one after the other.
 
@@ -228,11 +190,6 @@ module _ {bytes : List ℕ} {blocks : ℕ} {table : List ℕ} {next i : ℕ} (re
 
 -- The ports of a wire.
 
-every_at : {A : Type 0} (f : A → Bool) (l : List A) (i : ℕ) (d : A) → list_all f l ≡ true → i < length l → f (get_or l i d) ≡ true
-every_at f [] i d e h = absurd (omega arith)
-every_at f (x ∷ l) zero d e h = (both_true (f x) (list_all f l) e).0
-every_at f (x ∷ l) (suc i) d e h = every_at f l i d (both_true (f x) (list_all f l) e).1 (omega arith)
-
 pub linkable : {table bytes : List ℕ} {blocks u n i : ℕ} {wire : Record} → Firsts table bytes blocks → BlocksRead bytes blocks → WiresRead bytes u n → view_right (unbytes bytes) ≡ true →
     blocks ≤ node_slots → i < n → wire ≡ record_in bytes (place_of u i) → Linkable table bytes blocks wire
 unfolding view_right ranks_right
@@ -240,12 +197,12 @@ linkable {table} {bytes} {blocks} {u} {n} {i} {wire} f b w e few h p =
     let v = unbytes bytes in
     let m = w.many in
     let k = b.many in
-    let x = both_true (order_right v.wires) (list_all (ranks_right v.blocks) v.wires && list_all (positions_right v.blocks) v.wires) e in
-    let y = both_true (list_all (ranks_right v.blocks) v.wires) (list_all (positions_right v.blocks) v.wires) x.1 in
-    let z = every_at (ranks_right v.blocks) v.wires i no_wire y.0 (omega arith) in
+    let x = and_parts (order_right v.wires) (list_all (ranks_right v.blocks) v.wires && list_all (positions_right v.blocks) v.wires) e in
+    let y = and_parts (list_all (ranks_right v.blocks) v.wires) (list_all (positions_right v.blocks) v.wires) x.1 in
+    let z = AllPass-from_list_all (ranks_right v.blocks) v.wires y.0 i no_wire (omega arith) in
     let g : get_or v.wires i no_wire ≡ wire_of wire = w.each i h ∙ ap wire_of (sym p) in
     let r = subst (λ (x : RankWire). (ltb x.source (length v.blocks) && ltb x.target (length v.blocks)) ≡ true) g z in
-    let s = both_true (ltb wire.a (length v.blocks)) (ltb wire.c (length v.blocks)) r in
+    let s = and_parts (ltb wire.a (length v.blocks)) (ltb wire.c (length v.blocks)) r in
     let a = ltb-true wire.a (length v.blocks) s.0 in
     let c = ltb-true wire.c (length v.blocks) s.1 in
     record { firsts = f; read = b; few = few; source = omega arith; target = omega arith }
@@ -283,35 +240,6 @@ sums_wrong bytes h = rw (← h) refl
 
 -- The whole build.
 
-first_append : (m : MultiPortGraph) (a b : List Call) → is_ok (first_refusal m a) ≡ true → first_refusal m (a ++ b) ≡ first_refusal (graph_after m a) b
-unfolding first_refusal_under graph_after
-first_append m [] b h = refl
-first_append m (c ∷ a) b h = go (is_ok (after_call c (step m c).answer (Ok tt))) refl (first_append (step m c).graph a b)
-  where
-    rest : Result (Unit {0}) LoadError
-    rest = first_refusal (step m c).graph a
-
-    go : (t : Bool) → is_ok (after_call c (step m c).answer (Ok tt)) ≡ t →
-        (is_ok rest ≡ true → first_refusal (step m c).graph (a ++ b) ≡ first_refusal (graph_after (step m c).graph a) b) →
-        after_call c (step m c).answer (first_refusal (step m c).graph (a ++ b)) ≡ first_refusal (graph_after (step m c).graph a) b
-    go true e more = after_loaded c (step m c).answer _ e ∙ more (ap is_ok (sym (after_loaded c (step m c).answer rest e)) ∙ h)
-    go false e more = absurd (true_not_false (ap is_ok (sym (after_refused c (step m c).answer rest e)) ∙ h) e)
-
-pub first_refused : (m : MultiPortGraph) (a b : List Call) → is_ok (first_refusal m a) ≡ false → first_refusal m (a ++ b) ≡ first_refusal m a
-unfolding first_refusal_under
-first_refused m [] b h = absurd (true_not_false refl h)
-first_refused m (c ∷ a) b h = go (is_ok (after_call c (step m c).answer (Ok tt))) refl (first_refused (step m c).graph a b)
-  where
-    rest : Result (Unit {0}) LoadError
-    rest = first_refusal (step m c).graph a
-
-    go : (t : Bool) → is_ok (after_call c (step m c).answer (Ok tt)) ≡ t → (is_ok rest ≡ false → first_refusal (step m c).graph (a ++ b) ≡ rest) →
-        after_call c (step m c).answer (first_refusal (step m c).graph (a ++ b)) ≡ after_call c (step m c).answer rest
-    go true e more =
-        after_loaded c (step m c).answer _ e
-        ∙ (more (ap is_ok (sym (after_loaded c (step m c).answer rest e)) ∙ h) ∙ sym (after_loaded c (step m c).answer rest e))
-    go false e more = after_refused c (step m c).answer _ e ∙ sym (after_refused c (step m c).answer rest e)
-
 after_append : (m : MultiPortGraph) (a b : List Call) → graph_after m (a ++ b) ≡ graph_after (graph_after m a) b
 unfolding graph_after
 after_append m [] b = refl
@@ -325,40 +253,6 @@ run_from_graph s (c ∷ l) = run_from_graph (next s c) l
 pub run_graph : (release : Release) (calls : List Call) → (run release calls).graph ≡ graph_after (empty_graph release) calls
 unfolding run_under
 run_graph release calls = run_from_graph (record { graph = empty_graph release; book = empty_book }) calls
-
-pub is_loaded : (a : Result (Unit {0}) LoadError) → is_ok a ≡ true → a ≡ Ok tt
-is_loaded (Ok _) h = refl
-is_loaded (Err _) h = absurd (true_not_false h refl)
-
--- so many adds that are all accepted leave as many blocks in the book
-adds_booked : (s : State) (l : List BlockPorts) → is_ok (first_refusal s.graph (map add_of l)) ≡ true → length (run_from s (map add_of l)).book.blocks ≡ length l + length s.book.blocks
-unfolding run_from_under first_refusal_under
-adds_booked s [] h = omega arith
-adds_booked s (b ∷ l) h = go (step s.graph (add_of b)).answer refl (adds_booked (next s (add_of b)) l)
-  where
-    rest : Result (Unit {0}) LoadError
-    rest = first_refusal (step s.graph (add_of b)).graph (map add_of l)
-
-    go : (v : Result (NodeIndex × PortIndex) Refusal) → (step s.graph (add_of b)).answer ≡ v →
-        (is_ok rest ≡ true → length (run_from (next s (add_of b)) (map add_of l)).book.blocks ≡ length l + length (next s (add_of b)).book.blocks) →
-        length (run_from (next s (add_of b)) (map add_of l)).book.blocks ≡ suc (length l) + length s.book.blocks
-    go (Ok (n, p)) e more =
-        let k : is_ok rest ≡ true = ap (λ (v : Result (NodeIndex × PortIndex) Refusal). is_ok (after_call (add_of b) v rest)) (sym e) ∙ h in
-        let r = more k in
-        let t : length (next s (add_of b)).book.blocks ≡ suc (length s.book.blocks) = ap (λ (v : Result (NodeIndex × PortIndex) Refusal). length (book_add s.book b.incoming b.outgoing v).blocks) e in
-        omega arith
-    go (Err r) e more = absurd (true_not_false (ap (λ (v : Result (NodeIndex × PortIndex) Refusal). is_ok (after_call (add_of b) v rest)) (sym e) ∙ h) refl)
-
-pub adds_few : (release : Release) (l : List BlockPorts) → is_ok (first_refusal (empty_graph release) (map add_of l)) ≡ true → length l ≤ node_slots
-unfolding run_under
-adds_few release l h =
-    let calls = map add_of l in
-    let a = adds_booked (record { graph = empty_graph release; book = empty_book }) l h in
-    let b = visible_nodes_of_history release calls in
-    let f = (rel_run release calls).1.fine in
-    let c = visible_nodes_lem f in
-    let d = blocks_are_few (run release calls).graph in
-    omega arith
 
 module _ (release : Release) (v : View) where
   abbrev adds : List Call
@@ -380,10 +274,12 @@ module _ (release : Release) (v : View) where
       first = subst (λ (m : MultiPortGraph). Built m adds m₁) start added
 
       pub blocks_fit_table : length v.blocks ≤ node_slots
-      blocks_fit_table = adds_few release v.blocks (ap is_ok first.told)
+      blocks_fit_table = (next_slots release v.blocks first.told).nodes_fit
 
       on : first_refusal (empty_graph release) (adds ++ links) ≡ first_refusal m₁ links
-      on = first_append (empty_graph release) adds links (ap is_ok first.told) ∙ ap (λ (m : MultiPortGraph). first_refusal m links) (sym first.graph)
+      on =
+          let s : State = record { graph = empty_graph release; book = empty_book } in
+          refusal_after s adds links first.told ∙ ap (λ (m : MultiPortGraph). first_refusal m links) (run_from_graph s adds ∙ sym first.graph)
 
       -- at a wire,
       pub stopped_wires : {r : LoadError} → first_refusal m₁ links ≡ Err r → first_refusal (empty_graph release) (build_of v) ≡ Err r
@@ -444,4 +340,4 @@ module _ (release : Release) (bytes : List ℕ) where
 -- a file of right sums has whole units
 pub whole_length : (bytes : List ℕ) → true ≡ is_whole bytes → length bytes % 512 ≡ 0
 unfolding is_whole
-whole_length bytes h = eqb-true (length bytes % 512) 0 (both_true (eqb (length bytes % 512) 0) _ (sym h)).0
+whole_length bytes h = eqb-true (length bytes % 512) 0 (and_parts (eqb (length bytes % 512) 0) _ (sym h)).0

@@ -9,20 +9,19 @@ use Rattle.std.proofs.Math.Path.{sym, ap, subst}
 use Rattle.std.proofs.Common.{Bor, ◌∙◌, length-append, eqb-true, eq-eqb, ne_eqb, leb-true, leb-false, le-leb}
 use Rattle.std.proofs.Math.Bool.{and_assoc, and-false}
 use mathlib.Core.List.{◌++◌, List, [], ◌∷◌, map, append_assoc, append-nil}
-use Rattle.std.proofs.lemmas.List.{drop-append-le, drop-drop}
+use Rattle.std.proofs.lemmas.List.{length-map, nil_from_length, drop-append-le, drop-drop}
 use Rattle.std.proofs.Math.Nat.{suc-mul}
 use Prim.Native.Nat.{ℕ, zero, suc, ◌+◌, ◌-◌, ◌*◌, ◌/◌, ◌%◌, ◌≤◌, ◌<◌}
 use native.Mathlib.Omega.{arith}
 use Rattle.std.proofs.Math.Dec.{eqb}
 use Rattle.std.proofs.Math.ListN.{length, drop, length-drop}
 use Rattle.std.proofs.Math.Seq.{take_at, drop_at, length-take-le}
-use Rattle.std.proofs.lemmas.Bool.{eqb-false, lt-leb}
+use Rattle.std.proofs.lemmas.Bool.{and_parts, eqb-false, lt-leb}
 use Rattle.portgraph.specs.Sums.{total_same}
-use Rattle.port_tables.specs.Listing.{length_map}
 use Rattle.files.specs.View.{View}
 use Rattle.files.specs.Layout.{Record, unit_records, field_at, word_at, sum_of, block_of, wire_of, record_at, records_at, records_of, with_records, with_unit, read_units, unbytes}
 use Rattle.files.specs.Loading.{sum_holds, units_in, unit_list, is_whole, kind_of, count_of, of_kind, kinds_right, goes_on, counts_right, block_zeros, zeros_right, units_right}
-use Rattle.files.specs.LaidLaws.{both_true, field_taken, records_many}
+use Rattle.files.specs.LaidLaws.{field_taken, records_many}
 use Rattle.files.specs.WrittenLaws.{records_taken, word_taken}
 use Rattle.files.specs.UnitSteps.{there}
 use Rattle.files.specs.LoadForms.{next_kind, kind_fits, count_fits, unit_fits, units_fit, ShapeIs}
@@ -51,10 +50,6 @@ module _ (l : List ℕ) (some : 0 < length l) (whole : length l % 512 ≡ 0) whe
       let d = length-drop 512 l in
       let n : length l / 512 ≡ suc (length (drop 512 l) / 512) = omega arith in
       rw n
-
-pub none_left : (l : List ℕ) → length l ≤ 0 → l ≡ []
-none_left [] h = refl
-none_left (x ∷ l) h = absurd (omega arith)
 
 -- Chunks of one length, each of which passes a test, or one of which does not.
 
@@ -304,14 +299,14 @@ module _ (unit behind : List ℕ) (n : length unit ≡ 512) (w : length behind %
           (length (unbytes both).blocks ≡ cond t (field_at unit 2) 0 + length (unbytes behind).blocks) × (length (unbytes both).wires ≡ cond t 0 (field_at unit 2) + length (unbytes behind).wires)
       go true v =
           let n = length-append (map block_of records) (unbytes behind).blocks in
-          let m = length_map block_of records in
+          let m = length-map records block_of in
           let k = many in
           let a = ap (λ (x : View). length x.blocks) v in
           let b = ap (λ (x : View). length x.wires) v in
           (omega arith, omega arith)
       go false v =
           let n = length-append (map wire_of records) (unbytes behind).wires in
-          let m = length_map wire_of records in
+          let m = length-map records wire_of in
           let k = many in
           let a = ap (λ (x : View). length x.blocks) v in
           let b = ap (λ (x : View). length x.wires) v in
@@ -320,7 +315,7 @@ module _ (unit behind : List ℕ) (n : length unit ≡ 512) (w : length behind %
 -- units that do not fit are not mended by those before them
 fit_not : (k : ℕ) (before l : List ℕ) → length before ≡ 512 * k → length l % 512 ≡ 0 → units_fit (unit_list l) ≡ false → units_fit (unit_list (before ++ l)) ≡ false
 unfolding units_fit
-fit_not zero before l h w e = ap (λ (x : List ℕ). units_fit (unit_list (x ++ l))) (none_left before (omega arith)) ∙ e
+fit_not zero before l h w e = ap (λ (x : List ℕ). units_fit (unit_list (x ++ l))) (nil_from_length before (omega arith)) ∙ e
 fit_not (suc k) before l h w e =
     let a = length-append before l in
     let d = length-drop 512 before in
@@ -346,7 +341,7 @@ pub record Shaping (file rest : List ℕ) (next blocks wires : ℕ) : Type 0 whe
 pub shape_begins : (file aside : List ℕ) {rest : List ℕ} → length file % 512 ≡ 0 → file ≡ aside ++ rest → length aside ≡ length file % 512 → Shaping file rest 0 0 0
 unfolding unit_list units_in units_fit unbytes read_units
 shape_begins file aside {rest} h e l =
-    let z = none_left aside (omega arith) in
+    let z = nil_from_length aside (omega arith) in
     let s : file ≡ rest = e ∙ ap (λ (x : List ℕ). x ++ rest) z in
     let n = ap length s in
     record {
@@ -366,7 +361,7 @@ module _ {file rest : List ℕ} {next blocks wires : ℕ} (s : Shaping file rest
   pub shape_ends : length rest < 512 → ShapeIs file blocks wires
   shape_ends h =
       let w = s.whole in
-      let e : file ≡ s.behind = s.split ∙ ap (λ (l : List ℕ). l ++ s.behind) (none_left rest (omega arith)) in
+      let e : file ≡ s.behind = s.split ∙ ap (λ (l : List ℕ). l ++ s.behind) (nil_from_length rest (omega arith)) in
       record {
         units = ap (λ (l : List ℕ). units_right (unit_list l)) e ∙ (units_as_fit (unit_list s.behind) ∙ s.fit);
         blocks_many = s.blocks_many ∙ ap (λ (l : List ℕ). length (unbytes l).blocks) (sym e);
@@ -397,8 +392,8 @@ module _ {file rest : List ℕ} {next blocks wires : ℕ} (s : Shaping file rest
       shape_few : field_at unit 2 ≤ unit_records
       unfolding unit_fits
       shape_few =
-          let a = both_true (kind_fits (kind_of unit) next) _ (sym fits) in
-          let b = both_true (count_fits (kind_of unit) next (count_of unit)) _ a.1 in
+          let a = and_parts (kind_fits (kind_of unit) next) _ (sym fits) in
+          let b = and_parts (count_fits (kind_of unit) next (count_of unit)) _ a.1 in
           count_few (kind_of unit) next (count_of unit) b.0
 
       module _ {kind count b w : ℕ} (isKind : kind ≡ field_at unit 0) (isCount : count ≡ field_at unit 2) where

@@ -9,7 +9,10 @@ use Prim.Native.Nat.{ℕ, zero, suc, ◌+◌, ◌-◌, ◌*◌, ◌/◌, ◌%◌
 use native.Mathlib.Omega.{arith}
 use Rattle.std.proofs.Math.Dec.{eqb}
 use Rattle.std.proofs.Math.ListN.{take, drop, replicate, length-take, length-drop, take-append-drop}
+use Rattle.std.proofs.lemmas.Bool.{and_parts}
 use Rattle.std.proofs.lemmas.List.{length-replicate}
+use Rattle.std.proofs.lemmas.List.Elements.{All-replicate}
+use Rattle.std.proofs.lemmas.List.Sums.{list_all-from_AllPass}
 use Rattle.std.proofs.Math.Seq.{take_at, drop_at}
 use borrow.Author.Tests.{eq-eqb, le-leb}
 use Rattle.port_tables.specs.Lists.{Member}
@@ -20,7 +23,7 @@ use Rattle.files.specs.Layout.{Record, block_record, wire_record, field_bytes, w
 use Rattle.files.specs.LayoutLaws.{records_length, head_length, unit_length, taken_few, units_length, unit_then, kind_read, unit_read, units_enough, view_read_back}
 use Rattle.files.specs.Loading.{sum_holds, units_in, unit_list, is_whole, kind_of, count_of, of_kind, kinds_right, goes_on, counts_right, zeros_from, block_zeros, zeros_right, units_right, view_right, is_laid}
 use Rattle.files.specs.Claims.{Sound}
-use Rattle.files.specs.LaidLaws.{both_true, field_taken, UnitOf, Units}
+use Rattle.files.specs.LaidLaws.{field_taken, UnitOf, Units}
 use Rattle.files.specs.WrittenLaws.{sum_taken}
 use Rattle.files.specs.SoundLaws.{item_every, sound_right}
 
@@ -59,10 +62,6 @@ sum_small l = omega arith
 
 -- A unit.
 
-zeros_pass : (n : ℕ) → list_all (eqb 0) (replicate n 0) ≡ true
-zeros_pass zero = refl
-zeros_pass (suc n) = zeros_pass n
-
 module _ (kind : ℕ) (records : List Record) (few : length records ≤ unit_records) where
   abbrev many : ℕ
   many = length records
@@ -99,7 +98,7 @@ module _ (kind : ℕ) (records : List Record) (few : length records ≤ unit_rec
         let u = unit kind records ++ [] in
         let c = count_read [] in
         let z : zeros_from (4 + 8 * count_of u) u ≡ true =
-        ap (λ (n : ℕ). list_all (eqb 0) (take (8 * (unit_records - n)) (drop (4 + 8 * n) u))) c ∙ (ap (list_all (eqb 0)) (unused_read []) ∙ zeros_pass (8 * (unit_records - many))) in
+        ap (λ (n : ℕ). list_all (eqb 0) (take (8 * (unit_records - n)) (drop (4 + 8 * n) u))) c ∙ (ap (list_all (eqb 0)) (unused_read []) ∙ list_all-from_AllPass (eqb 0) (replicate (8 * (unit_records - many)) 0) (All-replicate (λ (x : ℕ). eqb 0 x ≡ true) (8 * (unit_records - many)) 0 refl)) in
         let k = kind_read kind records [] kindSmall in
         let r = unit_read kind records [] few fit in
         let y : cond (of_kind 1 u) (list_all block_zeros (records_of u)) true ≡ true = (λ j. cond (eqb (k j) 1) (list_all block_zeros (r j)) true) ∙ go (eqb kind 1) refl in
@@ -185,7 +184,7 @@ module _ (q : ℕ) where
   units_before zero f bytes e h = let n : 0 + q ≡ q = omega arith in rw n h
   units_before (suc p) f bytes e h =
       let n : suc p + q ≡ suc (p + q) = omega arith in
-      let k = both_true (f (take 512 bytes)) (list_all f (units_in p (drop 512 bytes))) e in
+      let k = and_parts (f (take 512 bytes)) (list_all f (units_in p (drop 512 bytes))) e in
       let r = units_before p f (drop 512 bytes) k.1 (subst (λ (l : List ℕ). list_all f (units_in q l) ≡ true) (next_units p bytes) h) in
       let a = k.0 in
       rw n (λ j. a j && r j)

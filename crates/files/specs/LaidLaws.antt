@@ -1,21 +1,15 @@
 -- What a laid file is: units of kind 1 and then units of kind 2, all but the last of a kind full. So each record stands where its
 -- number says.
 use Rattle.std.specs.List.{list_all}
-use Rattle.std.specs.Prelude.{◌≡◌, refl, Bool, true, false, cond, ◌&&◌, List, [], ◌∷◌, ◌++◌, map, ℕ, zero, suc, ◌+◌, ◌-◌, ◌*◌, ◌/◌, ◌%◌, ◌≤◌, ◌<◌, leb, ltb, length, get_or, take, drop}
+use Rattle.std.specs.Prelude.{◌≡◌, refl, Bool, true, false, cond, List, [], ◌∷◌, ◌++◌, map, ℕ, zero, suc, ◌+◌, ◌-◌, ◌*◌, ◌/◌, ◌%◌, ◌≤◌, ◌<◌, leb, ltb, length, get_or, take, drop}
 use Rattle.std.proofs.Common.{sym, ap, ◌∙◌, subst, arith, length-append, drop-drop, get_or-take, get_or-append-add, eqb-true, eq-eqb, leb-true, ltb-true, ltb-false}
 use Rattle.std.proofs.Math.ListN.{get_or-append}
 use Rattle.multiportgraph.specs.HiddenStays.{true_not_false}
-use Rattle.std.proofs.lemmas.List.{map-append}
-use Rattle.port_tables.specs.Listing.{length_map}
+use Rattle.std.proofs.lemmas.Bool.{and_parts}
+use Rattle.std.proofs.lemmas.List.{length-map, get_or-map, map-append}
 use Rattle.files.specs.View.{BlockPorts, RankWire, View}
 use Rattle.files.specs.Layout.{Record, field_at, unit_records, units_for, block_of, wire_of, record_at, records_at, records_of, read_units, unbytes}
 use Rattle.files.specs.Loading.{units_in, unit_list, kind_of, count_of, of_kind, kinds_right, goes_on, counts_right, zeros_right, units_right}
-
--- Tests.
-
-pub both_true : (a b : Bool) → a && b ≡ true → (a ≡ true) × (b ≡ true)
-both_true true b e = (refl, e)
-both_true false b e = absurd (true_not_false e refl)
 
 -- Fields.
 
@@ -178,7 +172,7 @@ parts_said (suc p) q bytes u v =
 module _ (u : List ℕ) (l : List (List ℕ)) (e : counts_right (u ∷ l) ≡ true) where
   count_parts : (leb (cond (goes_on u l) unit_records 1) (count_of u) ≡ true) × (leb (count_of u) unit_records ≡ true) × (counts_right l ≡ true)
   unfolding counts_right
-  count_parts = let a = both_true _ _ e in let b = both_true _ _ a.1 in (a.0, b.0, b.1)
+  count_parts = let a = and_parts _ _ e in let b = and_parts _ _ a.1 in (a.0, b.0, b.1)
 
   count_least : (1 ≤ count_of u) × (goes_on u l ≡ true → unit_records ≤ count_of u)
   count_least = go (goes_on u l) refl (leb-true _ _ count_parts.0)
@@ -219,8 +213,8 @@ second_part zero bytes k c z = tt
 second_part (suc n) bytes k c z =
     let u = take 512 bytes in
     let rest = units_in n (drop 512 bytes) in
-    let a = both_true _ _ k in
-    let b = both_true _ _ z in
+    let a = and_parts _ _ k in
+    let b = and_parts _ _ z in
     let later = second_part n (drop 512 bytes) a.1 (count_parts u rest c).2 b.1 in
     (first_unit 2 n n bytes (omega arith) (sym (field_taken 512 0 bytes (omega arith)) ∙ eqb-true _ _ a.0) c b.0 later, later)
 
@@ -235,7 +229,7 @@ parts_of (suc n) bytes k c z = go (of_kind 1 (take 512 bytes)) refl k (parts_of 
     go : (t : Bool) → of_kind 1 (take 512 bytes) ≡ t → cond t (kinds_right rest) (list_all (of_kind 2) (take 512 bytes ∷ rest)) ≡ true →
         (kinds_right rest ≡ true → counts_right rest ≡ true → list_all zeros_right rest ≡ true → Parts n (drop 512 bytes)) → Parts (suc n) bytes
     go true e k more =
-        let b = both_true (zeros_right (take 512 bytes)) (list_all zeros_right rest) z in
+        let b = and_parts (zeros_right (take 512 bytes)) (list_all zeros_right rest) z in
         let s = more k (count_parts (take 512 bytes) rest c).2 b.1 in
         let w = s.whole in
         let d : drop (512 * s.first) (drop 512 bytes) ≡ drop (512 * suc s.first) bytes =
@@ -251,15 +245,10 @@ parts_of (suc n) bytes k c z = go (of_kind 1 (take 512 bytes)) refl k (parts_of 
 
 -- By index.
 
-get_d_mapped : {A B : Type 0} (f : A → B) (l : List A) (i : ℕ) (x : A) (d : B) → i < length l → get_or (map f l) i d ≡ f (get_or l i x)
-get_d_mapped f [] i x d h = absurd (omega arith)
-get_d_mapped f (y ∷ l) zero x d h = refl
-get_d_mapped f (y ∷ l) (suc i) x d h = get_d_mapped f l i x d (omega arith)
-
 module _ (b : List ℕ) (e : units_right (unit_list b) ≡ true) where
   pub parts : Parts (length b / 512) b
   unfolding units_right unit_list
-  parts = let x = both_true _ _ e in let y = both_true _ _ x.1 in parts_of (length b / 512) b x.0 y.0 y.1
+  parts = let x = and_parts _ _ e in let y = and_parts _ _ x.1 in parts_of (length b / 512) b x.0 y.0 y.1
 
   pub said : unbytes b ≡ record { blocks = map block_of (records_in parts.first b); wires = map wire_of (records_in parts.second (drop (512 * parts.first) b)) }
   unfolding unbytes
@@ -269,12 +258,12 @@ module _ (b : List ℕ) (e : units_right (unit_list b) ≡ true) where
   pub block_units : units_for (length (unbytes b).blocks) ≡ parts.first
   block_units =
       ap (λ (v : View). units_for (length v.blocks)) said
-      ∙ (ap units_for (length_map block_of (records_in parts.first b)) ∙ units_counted 1 parts.first b parts.blocks)
+      ∙ (ap units_for (length-map (records_in parts.first b) block_of) ∙ units_counted 1 parts.first b parts.blocks)
 
   pub wire_units : units_for (length (unbytes b).wires) ≡ parts.second
   wire_units =
       ap (λ (v : View). units_for (length v.wires)) said
-      ∙ (ap units_for (length_map wire_of (records_in parts.second (drop (512 * parts.first) b))) ∙ units_counted 2 parts.second (drop (512 * parts.first) b) parts.wires)
+      ∙ (ap units_for (length-map (records_in parts.second (drop (512 * parts.first) b)) wire_of) ∙ units_counted 2 parts.second (drop (512 * parts.first) b) parts.wires)
 
   pub all_units : length b / 512 ≡ units_for (length (unbytes b).blocks) + units_for (length (unbytes b).wires)
   all_units = let a = parts.whole in let x = block_units in let y = wire_units in omega arith
@@ -283,10 +272,10 @@ module _ (b : List ℕ) (e : units_right (unit_list b) ≡ true) where
   pub block_placed : (i : ℕ) (d : BlockPorts) → i < length (unbytes b).blocks → get_or (unbytes b).blocks i d ≡ block_of (record_at (drop (512 * (i / 63) + 4 + 8 * (i % 63)) b))
   block_placed i d h =
       let records = records_in parts.first b in
-      let n : length (unbytes b).blocks ≡ length records = ap (λ (v : View). length v.blocks) said ∙ length_map block_of records in
+      let n : length (unbytes b).blocks ≡ length records = ap (λ (v : View). length v.blocks) said ∙ length-map records block_of in
       let r = record_at b in
       ap (λ (v : View). get_or v.blocks i d) said
-      ∙ (get_d_mapped block_of records i r d (omega arith) ∙ ap block_of (record_placed 1 parts.first b parts.blocks i r (omega arith)))
+      ∙ (get_or-map block_of records i r d (omega arith) ∙ ap block_of (record_placed 1 parts.first b parts.blocks i r (omega arith)))
 
   -- a wire by its number
   pub wire_placed : (j : ℕ) (d : RankWire) → j < length (unbytes b).wires →
@@ -294,11 +283,11 @@ module _ (b : List ℕ) (e : units_right (unit_list b) ≡ true) where
   wire_placed j d h =
       let after = drop (512 * parts.first) b in
       let records = records_in parts.second after in
-      let n : length (unbytes b).wires ≡ length records = ap (λ (v : View). length v.wires) said ∙ length_map wire_of records in
+      let n : length (unbytes b).wires ≡ length records = ap (λ (v : View). length v.wires) said ∙ length-map records wire_of in
       let r = record_at b in
       let k = 512 * (j / 63) + 4 + 8 * (j % 63) in
       let u = block_units in
       let z : 512 * parts.first + k ≡ 512 * (units_for (length (unbytes b).blocks) + j / 63) + 4 + 8 * (j % 63) = omega arith in
       ap (λ (v : View). get_or v.wires j d) said
-      ∙ (get_d_mapped wire_of records j r d (omega arith)
+      ∙ (get_or-map wire_of records j r d (omega arith)
       ∙ ap wire_of (record_placed 2 parts.second after parts.wires j r (omega arith) ∙ ap record_at (drop-drop k (512 * parts.first) b ∙ ap (λ (m : ℕ). drop m b) z)))

@@ -4,18 +4,19 @@ use Rattle.std.proofs.Common.{sym, ap, ◌∙◌, subst, inl, inr, length-append
 use mathlib.Core.List.{List, [], ◌∷◌, ◌++◌, map, flat_map, append_assoc, append-nil}
 use native.Mathlib.Omega.{arith}
 use Rattle.std.proofs.Math.ListN.{length}
-use Rattle.std.proofs.lemmas.List.{length-replicate}
+use Rattle.std.proofs.lemmas.List.{length-map, length-replicate, map-id}
+use Rattle.std.proofs.lemmas.Simd.{map-map}
+use Rattle.multiportgraph.specs.ListReads.{flat_map_length}
 use Rattle.port_tables.specs.Lists.{Member}
-use Rattle.port_tables.specs.Listing.{member_left, member_right, length_map}
-use Rattle.files.specs.View.{BlockPorts, RankWire, View}
+use Rattle.port_tables.specs.Listing.{member_left, member_right}
+use Rattle.files.specs.View.{View}
 use Rattle.files.specs.Layout.{Record, FieldsFit, AllFit, ViewFits, block_record, wire_record, field_bytes, word_bytes, field_at, record_bytes, unit_records, unit_head, sum_of, unit, units_for, units_from, units_of, bytes_of, file_length, block_of, wire_of, record_at, records_at, records_of, empty_view, with_records, with_unit, read_units, unbytes}
 
 -- Lengths.
 
 pub records_length : (records : List Record) → length (flat_map record_bytes records) ≡ 8 * length records
-unfolding flat_map record_bytes field_bytes
-records_length [] = refl
-records_length (r ∷ l) = let e = records_length l in omega arith
+unfolding record_bytes field_bytes
+records_length records = flat_map_length record_bytes 8 (λ r. refl) records
 
 pub head_length : (kind : ℕ) (records : List Record) → length records ≤ unit_records → length (unit_head kind records) ≡ 508
 unfolding unit_head field_bytes
@@ -53,8 +54,8 @@ file_length_lem v =
     let a = units_length 1 (units_for (length blocks)) blocks in
     let b = units_length 2 (units_for (length wires)) wires in
     let c = length-append (units_from 1 (units_for (length blocks)) blocks) (units_from 2 (units_for (length wires)) wires) in
-    let d = ap units_for (length_map block_record v.blocks) in
-    let e = ap units_for (length_map wire_record v.wires) in
+    let d = ap units_for (length-map v.blocks block_record) in
+    let e = ap units_for (length-map v.wires wire_record) in
     omega arith
 
 -- Reading back.
@@ -137,14 +138,6 @@ units_read kind k (suc n) j records l h f =
     rw (e, append_assoc (unit kind first) (units_from kind n later) l)
     (rw (a, b, c, rest) (with_both (eqb kind 1) first later (read_units j l) ∙ ap (λ (x : List Record). with_unit kind x (read_units j l)) whole))
 
-blocks_back : (l : List BlockPorts) → map block_of (map block_record l) ≡ l
-blocks_back [] = refl
-blocks_back (b ∷ l) = ap (λ k. b ∷ k) (blocks_back l)
-
-wires_back : (l : List RankWire) → map wire_of (map wire_record l) ≡ l
-wires_back [] = refl
-wires_back (w ∷ l) = ap (λ k. w ∷ k) (wires_back l)
-
 pub units_enough : (count : ℕ) → count ≤ unit_records * units_for count
 unfolding units_for
 units_enough count = omega arith
@@ -165,8 +158,8 @@ view_read_back v f =
     let second = units_read 2 (omega arith) k 0 wires [] (units_enough (length wires)) f.1 in
     let e : read_units k (units_from 2 k wires) ≡ with_unit 2 wires empty_view =
     (λ i. read_units (zeros k i) (sym (append-nil (units_from 2 k wires)) i)) ∙ second in
-    let p = blocks_back v.blocks in
-    let q = wires_back v.wires in
+    let p : map block_of blocks ≡ v.blocks = map-map block_of block_record v.blocks ∙ map-id v.blocks in
+    let q : map wire_of wires ≡ v.wires = map-map wire_of wire_record v.wires ∙ map-id v.wires in
     rw many (first ∙ (ap (with_unit 1 blocks) e ∙ (λ i. record { blocks = (append-nil (map block_of blocks) ∙ p) i; wires = (append-nil (map wire_of wires) ∙ q) i })))
   where
     zeros : (k : ℕ) → k ≡ k + 0

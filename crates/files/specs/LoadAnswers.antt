@@ -1,9 +1,9 @@
 -- The answers of a load, case by case.
-use Rattle.std.specs.Prelude.{◌≡◌, Bool, true, false, cond, List, ◌∷◌, ◌↔◌, ◌⊎◌, ℕ, ◌+◌, ◌≤◌, ◌<◌, Result, Ok, Err}
+use Rattle.std.specs.Prelude.{◌≡◌, Bool, true, false, cond, List, ◌∷◌, ◌↔◌, ◌⊎◌, ℕ, ◌+◌, ◌*◌, ◌≤◌, ◌<◌, length, Result, Ok, Err}
 use Rattle.std.proofs.Math.Path.{refl, ap}
 use Rattle.std.proofs.Common.{sym, subst, inl, inr, ⊎_elim}
 use native.Mathlib.Omega.{arith}
-use Rattle.port_tables.specs.Limits.{node_ports}
+use Rattle.port_tables.specs.Limits.{node_slots, port_slots, node_ports}
 use Rattle.port_tables.specs.Lists.{Member}
 use Rattle.portgraph.specs.Model.{Model, Slots, live, gone, count_of}
 use Rattle.port_tables.specs.declared.direction.Direction.TheVariants.{Incoming, Outgoing}
@@ -23,14 +23,15 @@ use Rattle.theorems.proofs.CallLaws.{rel_run}
 use Rattle.files.specs.View.{BlockPorts, View, block_ports, view_of}
 use Rattle.files.specs.Layout.{bytes_of, unbytes}
 use Rattle.files.specs.LayoutLaws.{view_read_back}
-use Rattle.files.specs.ViewLaws.{view_fits}
+use Rattle.files.specs.ViewLaws.{view_fits, view_walked, view_within, wires_few}
 use Rattle.files.specs.ViewSound.{view_sound}
 use Rattle.files.specs.LaidAgain.{written_laid}
+use Rattle.files.specs.BuildLaws.{loaded_or_refused, built_view}
 use Rattle.files.specs.Saving.{file_of}
 use Rattle.files.specs.Loading.{is_whole, is_laid, build_of, first_refusal, load_answer, load_answer_under, graph_if}
 use Rattle.files.specs.SoundLaws.{laid_sound}
 use Rattle.files.specs.LoadClaims.{SharesInput, BuildRefused, build_many, build_no_block, build_wired, build_no_wire}
-use Rattle.files.specs.BuildRefusals.{loaded_or_refused, build_refusals}
+use Rattle.files.specs.BuildRefusals.{build_refusals}
 use Rattle.files.specs.declared.load.LoadError.{LoadError}
 use Rattle.files.specs.declared.load.LoadError.TheVariants.{BadSums, BadLayout, Refused}
 
@@ -134,7 +135,30 @@ module _ {m : MultiPortGraph} {M : Model} (f : Fine m M) where
       let q = ap (λ (x : BlockPorts). x.outgoing) k.2 in
       omega arith
 
--- saved by a history of one release, loaded for another or the same
+-- A file that loads.
+
+module _ (release : Release) (bytes : List ℕ) (e : load_answer release bytes ≡ Ok tt) where
+  loaded_view : view_of (run release (build_of (unbytes bytes))).graph ≡ unbytes bytes
+  loaded_view = let p = loaded_parts release bytes e in built_view release (unbytes bytes) (laid_sound bytes p.1) p.2
+
+  -- it has no more blocks than node slots, and no more wires than pairs of port slots
+  pub loaded_few : (length (unbytes bytes).blocks ≤ node_slots) × (2 * length (unbytes bytes).wires ≤ port_slots)
+  loaded_few =
+      let m = (run release (build_of (unbytes bytes))).graph in
+      let f = (rel_run release (build_of (unbytes bytes))).1.fine in
+      let a = (view_within f).blocks_few in
+      let b = wires_few f in
+      let c = ap (λ (u : View). length u.blocks) loaded_view in
+      let d = ap (λ (u : View). length u.wires) loaded_view in
+      let n = view_walked m in
+      (omega arith, omega arith)
+
+  -- no block of it has too many ports
+  pub loaded_small : (b : BlockPorts) → Member b (unbytes bytes).blocks → b.incoming + b.outgoing ≤ node_ports
+  loaded_small b i = view_small (rel_run release (build_of (unbytes bytes))).1.fine b (subst (λ (u : View). Member b u.blocks) (sym loaded_view) i)
+
+-- Saved by a history of one release, loaded for another or the same.
+
 pub saved_answers : (release other : Release) (calls : List Call) →
     ((load_answer other (file_of (run release calls).graph) ≡ Ok tt) ⊎ (load_answer other (file_of (run release calls).graph) ≡ Err (Refused NoRoom)))
     ⊎ ((load_answer other (file_of (run release calls).graph) ≡ Err (Refused InputWired)) × (other ≡ Two) × SharesInput (view_of (run release calls).graph).wires)

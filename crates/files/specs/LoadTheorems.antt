@@ -24,10 +24,10 @@ use Rattle.files.specs.ViewSound.{view_sound}
 use Rattle.files.specs.WrittenLaws.{laid_written}
 use Rattle.files.specs.SoundLaws.{laid_sound, said_fits}
 use Rattle.files.specs.LaidAgain.{written_laid}
-use Rattle.files.specs.BuildLaws.{built_view}
+use Rattle.files.specs.BuildLaws.{loaded_or_refused, built_view}
 use Rattle.files.specs.PartlyBuilt.{partly_built}
 use Rattle.files.specs.LoadClaims.{SharesInput, BuildRefused}
-use Rattle.files.specs.BuildRefusals.{loaded_or_refused, which_refusal}
+use Rattle.files.specs.BuildRefusals.{which_refusal}
 use Rattle.files.specs.FileTheorems.{same_file_same_wiring, file_read_back}
 use Rattle.files.specs.LoadAnswers as answers
 use Rattle.files.specs.ReleaseFiles as releases

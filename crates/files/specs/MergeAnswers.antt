@@ -1,37 +1,30 @@
 -- The answers of a merge, case by case.
-use Rattle.std.specs.Prelude.{◌≡◌, refl, Bool, true, false, List, [], ◌∷◌, ◌++◌, map, ◌⊎◌, ℕ, ◌+◌, ◌*◌, ◌≤◌, leb, drop, Result, Ok, Err}
-use Rattle.std.proofs.Common.{sym, ◌∙◌, subst, inl, inr}
+use Rattle.std.specs.Prelude.{◌≡◌, refl, Bool, true, false, List, [], ◌∷◌, ◌++◌, ◌⊎◌, ℕ, ◌+◌, ◌≤◌, leb, drop, Result, Ok, Err}
+use Rattle.std.proofs.Common.{sym, subst, inl, inr}
 use Rattle.std.proofs.Math.Path.{ap}
 use Rattle.std.proofs.Math.Logic.{⊎_elim}
 use native.Mathlib.Omega.{arith}
 use Rattle.std.proofs.Math.ListN.{length}
 use borrow.Author.Tests.{le-leb, lt-leb, leb-true, leb-false}
-use Rattle.port_tables.specs.Limits.{node_slots, port_slots, node_ports}
+use Rattle.port_tables.specs.Limits.{node_ports}
 use Rattle.port_tables.specs.Lists.{Member}
 use Rattle.multiportgraph.specs.Graph.{empty_graph}
 use Rattle.multiportgraph.specs.Listed.{list_after}
-use Rattle.port_tables.specs.Listing.{member_right, member_append, length_map}
-use Rattle.multiportgraph.specs.Wires as graph
-use Rattle.multiportgraph.specs.Wires.{wires_walked}
+use Rattle.port_tables.specs.Listing.{member_right, member_append}
 use Rattle.port_tables.specs.declared.release.Release.TheVariants.{One, Two}
 use Rattle.multi_tables.specs.declared.answers.Refusal.{Refusal}
 use Rattle.multi_tables.specs.declared.answers.Refusal.TheVariants.{NoRoom}
-use Rattle.theorems.specs.History.{run}
-use Rattle.theorems.proofs.CallLaws.{rel_run}
-use Rattle.files.specs.View.{BlockPorts, View, rank_among, rank_wire, view_of}
+use Rattle.files.specs.View.{BlockPorts, View}
 use Rattle.files.specs.Layout.{units_for, file_length, unbytes, read_units, ViewFits}
 use Rattle.files.specs.LayoutLaws.{file_length_lem, view_read_back}
 use Rattle.files.specs.Loading.{is_whole, is_laid, units_in, unit_list, units_right, kinds_right, counts_right, view_right, order_right, build_of, first_refusal, first_refusal_under, load_answer, load_answer_under}
 use Rattle.files.specs.Claims.{Bytes, Sound, longest_file}
 use Rattle.files.specs.LoadClaims.{BuildRefused, build_many, build_no_block, build_wired, build_no_wire}
-use Rattle.files.specs.OrderLaws.{sorted_length}
-use Rattle.files.specs.ViewLaws.{view_within, wires_few}
 use Rattle.files.specs.SoundLaws.{laid_sound, said_fits}
 use Rattle.files.specs.LaidAgain.{written_laid}
-use Rattle.files.specs.BuildLaws.{built_view}
-use Rattle.files.specs.BuildRefusals.{loaded_or_refused}
+use Rattle.files.specs.BuildLaws.{loaded_or_refused}
 use Rattle.files.specs.LoadAnswers as answers
-use Rattle.files.specs.LoadAnswers.{loaded_parts, parts_loaded, view_small}
+use Rattle.files.specs.LoadAnswers.{loaded_parts, loaded_few, loaded_small, parts_loaded}
 use Rattle.files.specs.Merging.{merged_view, merged_file, layout_answer, result_answer, merge_answer, buffer_if}
 use Rattle.files.specs.MergeLaws.{merged_sound, merged_fits}
 use Rattle.files.specs.MergeClaims.{IsLaid, Loads, MergeTold, first_sums, first_layout, second_sums, second_layout, first_refused, second_refused, result_refused, buffer_short, accepted}
@@ -40,30 +33,6 @@ use Rattle.files.specs.declared.merge.MergeError.{MergeError}
 use Rattle.files.specs.declared.merge.MergeError.TheVariants.{Load, BufferShort}
 
 -- A file that loads.
-
--- it has no more blocks than node slots, and no more wires than pairs of port slots
-pub loaded_few : (bytes : List ℕ) → Loads bytes → (length (unbytes bytes).blocks ≤ node_slots) × (2 * length (unbytes bytes).wires ≤ port_slots)
-unfolding view_of
-loaded_few bytes e =
-    let p = loaded_parts One bytes e in
-    let m = (run One (build_of (unbytes bytes))).graph in
-    let f = (rel_run One (build_of (unbytes bytes))).1.fine in
-    let said : view_of m ≡ unbytes bytes = built_view One (unbytes bytes) (laid_sound bytes p.1) p.2 in
-    let a = (view_within f).blocks_few in
-    let b = wires_few f in
-    let c = ap (λ (u : View). length u.blocks) said in
-    let d = ap (λ (u : View). length u.wires) said in
-    let n = sorted_length (map (rank_wire (rank_among (graph.blocks m))) (wires_walked m)) ∙ length_map (rank_wire (rank_among (graph.blocks m))) (wires_walked m) in
-    (omega arith, omega arith)
-
--- no block of it has too many ports
-loaded_small : (bytes : List ℕ) → Loads bytes → (b : BlockPorts) → Member b (unbytes bytes).blocks → b.incoming + b.outgoing ≤ node_ports
-loaded_small bytes e b i =
-    let p = loaded_parts One bytes e in
-    let m = (run One (build_of (unbytes bytes))).graph in
-    let f = (rel_run One (build_of (unbytes bytes))).1.fine in
-    let said : view_of m ≡ unbytes bytes = built_view One (unbytes bytes) (laid_sound bytes p.1) p.2 in
-    view_small f b (subst (λ (u : View). Member b u.blocks) (sym said) i)
 
 -- what it says
 pub said_sound : (bytes : List ℕ) → Loads bytes → Sound (unbytes bytes)
@@ -89,8 +58,8 @@ releases_differ e = let z : ◌≡◌ {A = ℕ} 0 1 = cc in omega arith
 module _ (first second : List ℕ) (small : Bytes first) (small₂ : Bytes second) (e : Loads first) (f : Loads second) where
   pub result_fits : ViewFits (merged_view (unbytes first) (unbytes second))
   result_fits =
-      let a = loaded_few first e in
-      let b = loaded_few second f in
+      let a = loaded_few One first e in
+      let b = loaded_few One second f in
       merged_fits (said_sound first e) (said_sound second f) (said_fits first small) (said_fits second small₂) (omega arith)
 
   -- it is laid,
@@ -111,7 +80,7 @@ module _ (first second : List ℕ) (small : Bytes first) (small₂ : Bytes secon
   pub result_short : Loads (merged_file first second) → length (merged_file first second) ≤ longest_file
   unfolding longest_file file_length units_for
   result_short g =
-      let few = loaded_few (merged_file first second) g in
+      let few = loaded_few One (merged_file first second) g in
       let long = result_long in
       let a = ap (λ (u : View). length u.blocks) result_says in
       let b = ap (λ (u : View). length u.wires) result_says in
@@ -124,7 +93,7 @@ module _ (first second : List ℕ) (small : Bytes first) (small₂ : Bytes secon
     where
       small_block : (b : BlockPorts) → Member b (unbytes (merged_file first second)).blocks → b.incoming + b.outgoing ≤ node_ports
       small_block b i =
-          ⊎_elim (loaded_small first e b) (loaded_small second f b)
+          ⊎_elim (loaded_small One first e b) (loaded_small One second f b)
           (member_append b (unbytes first).blocks (unbytes second).blocks (subst (λ (u : View). Member b u.blocks) result_says i))
 
       go : {r : Refusal} → BuildRefused One (unbytes (merged_file first second)) r → r ≡ NoRoom

@@ -6,7 +6,8 @@ use Rattle.std.proofs.Math.Path.{subst}
 use Rattle.std.proofs.Math.Logic.{⊎_elim}
 use Rattle.std.proofs.Math.ListN.{length, get_or-append}
 use Rattle.std.proofs.lemmas.Bool.{eqb-false}
-use Rattle.std.proofs.lemmas.List.{map-append}
+use Rattle.std.proofs.lemmas.List.{map-append, map-id}
+use Rattle.std.proofs.lemmas.Simd.{map-map}
 use Rattle.port_tables.specs.Lists.{Member, Rising}
 use Rattle.port_tables.specs.Listing.{member_append, member_map, map_member, rising_append}
 use Rattle.files.specs.View.{BlockPorts, RankWire, View, by_first, is_before, insert, insert_all}
@@ -67,20 +68,14 @@ unfolding is_before
 first_before n v w h = rw (ne_eqb (n + w.source) v.source (λ (z : n + w.source ≡ v.source). absurd (omega arith)), le-ltb (n + w.source) v.source (omega arith))
 
 map_raised : (n k : ℕ) (l : List RankWire) → map (raised (n + k)) l ≡ map (raised n) (map (raised k) l)
-map_raised n k [] = refl
-map_raised n k (w ∷ l) =
-    let a : n + k + w.source ≡ n + (k + w.source) = omega arith in
-    let b : n + k + w.target ≡ n + (k + w.target) = omega arith in
-    let r = map_raised n k l in
-    λ j. record { source = a j; output = w.output; target = b j; input = w.input } ∷ r j
+map_raised n k l =
+    let e : (a : ℕ) → n + k + a ≡ n + (k + a) = λ a. omega arith in
+    (λ j. map (λ (w : RankWire). record { source = e w.source j; output = w.output; target = e w.target j; input = w.input }) l) ∙ sym (map-map (raised n) (raised k) l)
 
 pub map_unraised : (l : List RankWire) → map (raised 0) l ≡ l
-map_unraised [] = refl
-map_unraised (w ∷ l) =
-    let a : 0 + w.source ≡ w.source = omega arith in
-    let b : 0 + w.target ≡ w.target = omega arith in
-    let r = map_unraised l in
-    λ j. record { source = a j; output = w.output; target = b j; input = w.input } ∷ r j
+map_unraised l =
+    let e : (a : ℕ) → 0 + a ≡ a = λ a. omega arith in
+    (λ j. map (λ (w : RankWire). record { source = e w.source j; output = w.output; target = e w.target j; input = w.input }) l) ∙ map-id l
 
 -- The result of two sound views.
 
@@ -153,14 +148,14 @@ module _ {v w : View} (s : Sound v) (t : Sound w) where
 
 -- Nothing on either side, and three.
 
-none_sound : Sound empty_view
-none_sound =
-    record { rise = tt; source = λ x i. absurd i; output = λ x i. absurd i; target = λ x i. absurd i; input = λ x i. absurd i }
+-- a view with no wires is sound
+pub unwired_sound : (blocks : List BlockPorts) → Sound (record { blocks = blocks; wires = [] })
+unwired_sound blocks = record { rise = tt; source = λ x i. absurd i; output = λ x i. absurd i; target = λ x i. absurd i; input = λ x i. absurd i }
 
 pub merged_nothing : {v : View} → Sound v → (merged_view empty_view v ≡ v) × (merged_view v empty_view ≡ v)
 merged_nothing {v} s = (
-  merged_appends none_sound s ∙ (λ j. record { blocks = v.blocks; wires = map_unraised v.wires j }),
-  merged_appends s none_sound ∙ (λ j. record { blocks = append-nil v.blocks j; wires = append-nil v.wires j }),
+  merged_appends (unwired_sound []) s ∙ (λ j. record { blocks = v.blocks; wires = map_unraised v.wires j }),
+  merged_appends s (unwired_sound []) ∙ (λ j. record { blocks = append-nil v.blocks j; wires = append-nil v.wires j }),
 )
 
 pub merged_grouping : {u v w : View} → Sound u → Sound v → Sound w → merged_view (merged_view u v) w ≡ merged_view u (merged_view v w)

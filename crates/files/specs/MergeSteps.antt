@@ -1,41 +1,45 @@
 -- What the functions that merge files cite: the records of both as numbers, the result laid and built, and the answers in their order.
-use Rattle.std.specs.Prelude.{◌≡◌, true, ℕ, zero, suc, ◌+◌, ◌-◌, ◌*◌, ◌≤◌, ◌<◌, get_or, set, take, Result, Ok, Err, IsErrAnd}
+use Rattle.std.specs.Prelude.{◌≡◌, true, ℕ, suc, ◌+◌, ◌-◌, ◌*◌, ◌≤◌, ◌<◌, get_or, set, take, Result, Ok, Err, IsErrAnd}
 use Rattle.std.proofs.Math.Path.{refl, ap}
-use Rattle.std.proofs.Common.{sym, ◌∙◌, subst, inl, inr, length-append, take_at}
+use Rattle.std.proofs.Common.{sym, ◌∙◌, subst, length-append, length-set, take_at}
 use mathlib.Core.List.{List, [], ◌∷◌, ◌++◌, map}
 use native.Mathlib.Omega.{arith}
 use Rattle.std.proofs.Math.ListN.{length, drop}
 use Rattle.std.proofs.Math.Seq.{sets}
+use Rattle.std.proofs.lemmas.Bool.{and_parts}
 use Rattle.std.proofs.lemmas.List.Edits.{sets-eq}
-use Rattle.std.proofs.lemmas.List.{take_all, take_more_set}
+use Rattle.std.proofs.lemmas.List.{length-map, take_all, take_more_set}
 use Rattle.std.proofs.lemmas.Slice.{take-put_mid}
 use borrow.Rule.Slice.PartMut.{put_mid}
-use borrow.Author.Tests.{le-leb, lt-leb}
+use borrow.Author.Tests.{le-leb}
 use Rattle.std.proofs.lemmas.List.{map-append}
+use Rattle.std.proofs.lemmas.Simd.{map-map}
 use Rattle.port_tables.specs.Lists.{range, Member}
 use Rattle.port_tables.specs.ResizeLinkSteps.{sets_append}
 use Rattle.multiportgraph.specs.Listed.{list_after}
-use Rattle.port_tables.specs.Listing.{length_map, length_range}
+use Rattle.multiportgraph.specs.ScanLaws.{range_append}
+use Rattle.port_tables.specs.Listing.{length_range}
 use Rattle.port_tables.specs.declared.release.Release.TheVariants.{One}
-use Rattle.files.specs.View.{BlockPorts, RankWire, View}
-use Rattle.files.specs.Layout.{block_record, wire_record, field_at, units_for, units_of, bytes_of, file_length, unbytes, FieldsFit, ViewFits}
+use Rattle.files.specs.View.{RankWire, View}
+use Rattle.files.specs.Layout.{Record, block_of, wire_of, block_record, wire_record, field_at, units_for, units_of, bytes_of, file_length, unbytes, FieldsFit, ViewFits}
 use Rattle.files.specs.LayoutLaws.{units_length, file_length_lem, view_read_back}
-use Rattle.files.specs.Loading.{is_whole, is_laid, unit_list, units_right, view_right, block_at, load_answer}
+use Rattle.files.specs.Loading.{is_whole, is_laid, unit_list, units_right, view_right, load_answer}
 use Rattle.files.specs.Claims.{Bytes, Sound}
-use Rattle.files.specs.LaidLaws.{both_true}
 use Rattle.files.specs.SoundLaws.{laid_sound, said_fits}
 use Rattle.files.specs.LaidAgain.{written_laid}
 use Rattle.files.specs.Forms.{number_of, record_of}
 use Rattle.files.specs.LoadForms.{place_of, record_in, no_wire, BlocksRead, WiresRead, Laid}
-use Rattle.files.specs.SaveSteps.{records_back}
+use Rattle.files.specs.RankLaws.{at_member, at_below, at_read, at_get, items_hold}
+use Rattle.files.specs.SaveSteps.{records_back, listed_map}
 use Rattle.files.specs.WireSteps.{blocks_read, wires_read}
 use Rattle.files.specs.Merging.{raised, merged_view, merged_file, layout_answer, result_answer, merge_answer, buffer_if, merge_buffer}
 use Rattle.files.specs.MergeForms.{block_read, wire_read, RaisedFit, BothLaid, BothFew}
 use Rattle.files.specs.MergeLaws.{map_unraised, merged_appends, merged_sound, merged_fits}
-use Rattle.files.specs.MergeAnswers.{loaded_few}
+use Rattle.files.specs.LoadAnswers.{loaded_few}
+use Rattle.files.specs.declared.file.File.{File}
 use Rattle.files.specs.declared.load.LoadError.{LoadError}
 use Rattle.files.specs.declared.merge.MergeError.{MergeError}
-use Rattle.files.specs.declared.merge.MergeError.TheVariants.{Load, BufferShort}
+use Rattle.files.specs.declared.merge.MergeError.TheVariants.{Load}
 
 -- Records as numbers.
 
@@ -46,67 +50,33 @@ record_fits bytes small at =
     let f : (i : ℕ) → get_or bytes i 0 + 256 * get_or bytes (i + 1) 0 < 65536 = λ i. let x = small i in let y = small (i + 1) in omega arith in
     record { a = f at; b = f (at + 2); c = f (at + 4); d = f (at + 6) }
 
--- what is read at each position of a list
-items_read : {A B : Type 0} (f : A → B) (g : ℕ → B) (l : List A) (d : A) (s : ℕ) → ((i : ℕ) → i < length l → g (s + i) ≡ f (get_or l i d)) → map g (range s (length l)) ≡ map f l
-unfolding range
-items_read f g [] d s h = refl
-items_read f g (x ∷ l) d s h =
-    let z : s ≡ s + 0 = omega arith in
-    let a = ap g z ∙ h 0 (omega arith) in
-    let b = items_read f g l d (suc s) (λ i k. let e : suc s + i ≡ s + suc i = omega arith in ap g e ∙ h (suc i) (omega arith)) in
-    λ j. a j ∷ b j
+-- a list whose items are read one after the other: what is read of each, as a number, and the record of that number again
+records_read : {A : Type 0} (f : A → Record) (l : List A) (d : A) {n : ℕ} (got : ℕ → A) → length l ≡ n → ((i : ℕ) → i < n → get_or l i d ≡ got i) → ((i : ℕ) → i < n → FieldsFit (f (got i))) →
+    map record_of (map (λ i. number_of (f (got i))) (range 0 n)) ≡ map f l
+records_read {A} f l d {n} got many each fits =
+    ap (map record_of)
+    (ap (λ (k : ℕ). map (λ i. number_of (f (got i))) (range 0 k)) (sym many)
+    ∙ listed_map (λ i. number_of (f (got i))) (λ x. number_of (f x)) l 0
+    (λ i x k.
+    let h = at_below l i x k in
+    let z : 0 + i ≡ i = omega arith in
+    ap (λ (j : ℕ). number_of (f (got j))) z ∙ ap (λ (y : A). number_of (f y)) (sym (each i (omega arith)) ∙ at_read l i x d k)))
+    ∙ records_back f l (items_hold (λ x. FieldsFit (f x)) l d (λ i h. subst (λ x. FieldsFit (f x)) (sym (each i (omega arith))) (fits i (omega arith))))
 
 module _ (bytes : List ℕ) (small : Bytes bytes) where
-  -- the numbers of its blocks
-  block_numbers : (n : ℕ) → BlocksRead bytes n → map (block_read bytes) (range 0 n) ≡ map (λ (b : BlockPorts). number_of (block_record b)) (unbytes bytes).blocks
-  block_numbers n r =
-      ap (λ (k : ℕ). map (block_read bytes) (range 0 k)) (sym r.many)
-      ∙ items_read (λ (b : BlockPorts). number_of (block_record b)) (block_read bytes) (unbytes bytes).blocks (record { incoming = 0; outgoing = 0 }) 0
-      (λ i h.
-      let z : 0 + i ≡ i = omega arith in
-      let m = r.many in
-      ap (block_read bytes) z ∙ ap (λ (b : BlockPorts). number_of (block_record b)) (sym (r.each i (omega arith))))
-
-  block_fits : (n : ℕ) → BlocksRead bytes n → (b : BlockPorts) → Member b (unbytes bytes).blocks → FieldsFit (block_record b)
-  block_fits n r = each (unbytes bytes).blocks (λ i h. let m = r.many in let f = record_fits bytes small (place_of 0 i) in
-      subst (λ (b : BlockPorts). FieldsFit (block_record b)) (sym (r.each i (omega arith))) (record { a = f.a; b = f.b; c = omega arith; d = omega arith }))
-    where
-      each : (l : List BlockPorts) → ((i : ℕ) → i < length l → FieldsFit (block_record (block_at l i))) → (b : BlockPorts) → Member b l → FieldsFit (block_record b)
-      each [] h b never = absurd never
-      each (x ∷ l) h b (inl e) = subst (λ (y : BlockPorts). FieldsFit (block_record y)) (sym e) (h 0 (omega arith))
-      each (x ∷ l) h b (inr i) = each l (λ j k. h (suc j) (omega arith)) b i
-
+  -- the records of its blocks
   pub block_records_read : (n : ℕ) → BlocksRead bytes n → map record_of (map (block_read bytes) (range 0 n)) ≡ map block_record (unbytes bytes).blocks
-  block_records_read n r = ap (map record_of) (block_numbers n r) ∙ records_back block_record (unbytes bytes).blocks (block_fits n r)
+  block_records_read n r =
+      records_read block_record (unbytes bytes).blocks (record { incoming = 0; outgoing = 0 }) (λ i. block_of (record_in bytes (place_of 0 i))) r.many r.each
+      (λ i h. let f = record_fits bytes small (place_of 0 i) in record { a = f.a; b = f.b; c = omega arith; d = omega arith })
 
-  -- the numbers of its wires, raised
-  module _ (unit n raise : ℕ) (r : WiresRead bytes unit n) where
-    wire_numbers : map (wire_read bytes unit raise) (range 0 n) ≡ map (λ (w : RankWire). number_of (wire_record (raised raise w))) (unbytes bytes).wires
-    wire_numbers =
-        ap (λ (k : ℕ). map (wire_read bytes unit raise) (range 0 k)) (sym r.many)
-        ∙ items_read (λ (w : RankWire). number_of (wire_record (raised raise w))) (wire_read bytes unit raise) (unbytes bytes).wires no_wire 0
-        (λ i h.
-        let z : 0 + i ≡ i = omega arith in
-        let m = r.many in
-        ap (wire_read bytes unit raise) z ∙ ap (λ (w : RankWire). number_of (wire_record (raised raise w))) (sym (r.each i (omega arith))))
-
-    wire_fits : RaisedFit bytes unit n raise → (w : RankWire) → Member w (unbytes bytes).wires → FieldsFit (wire_record (raised raise w))
-    wire_fits fit = each (unbytes bytes).wires (λ i h. let m = r.many in let f = record_fits bytes small (place_of unit i) in let k = fit i (omega arith) in
-        subst (λ (w : RankWire). FieldsFit (wire_record (raised raise w))) (sym (r.each i (omega arith))) (record { a = k.0; b = f.b; c = k.1; d = f.d }))
-      where
-        each : (l : List RankWire) → ((i : ℕ) → i < length l → FieldsFit (wire_record (raised raise (get_or l i no_wire)))) → (w : RankWire) → Member w l → FieldsFit (wire_record (raised raise w))
-        each [] h w never = absurd never
-        each (x ∷ l) h w (inl e) = subst (λ (y : RankWire). FieldsFit (wire_record (raised raise y))) (sym e) (h 0 (omega arith))
-        each (x ∷ l) h w (inr i) = each l (λ j k. h (suc j) (omega arith)) w i
-
-    pub wire_records_read : RaisedFit bytes unit n raise → map record_of (map (wire_read bytes unit raise) (range 0 n)) ≡ map wire_record (map (raised raise) (unbytes bytes).wires)
-    wire_records_read fit =
-        ap (map record_of) wire_numbers
-        ∙ (records_back (λ (w : RankWire). wire_record (raised raise w)) (unbytes bytes).wires (wire_fits fit) ∙ twice (unbytes bytes).wires)
-      where
-        twice : (l : List RankWire) → map (λ (w : RankWire). wire_record (raised raise w)) l ≡ map wire_record (map (raised raise) l)
-        twice [] = refl
-        twice (w ∷ l) = ap (λ k. wire_record (raised raise w) ∷ k) (twice l)
+  -- and of its wires, their ranks raised
+  pub wire_records_read : (unit n raise : ℕ) → WiresRead bytes unit n → RaisedFit bytes unit n raise →
+      map record_of (map (wire_read bytes unit raise) (range 0 n)) ≡ map wire_record (map (raised raise) (unbytes bytes).wires)
+  wire_records_read unit n raise r fit =
+      records_read (λ (w : RankWire). wire_record (raised raise w)) (unbytes bytes).wires no_wire (λ i. wire_of (record_in bytes (place_of unit i))) r.many r.each
+      (λ i h. let f = record_fits bytes small (place_of unit i) in let k = fit i h in record { a = k.0; b = f.b; c = k.1; d = f.d })
+      ∙ sym (map-map wire_record (raised raise) (unbytes bytes).wires)
 
   -- ranks that are not raised fit
   pub unraised_fit : (unit n : ℕ) → RaisedFit bytes unit n 0
@@ -114,35 +84,53 @@ module _ (bytes : List ℕ) (small : Bytes bytes) where
 
 -- Numbers stored in a list, one after the other.
 
-range_last : (s n : ℕ) → range s (suc n) ≡ range s n ++ ((s + n) ∷ [])
+-- so many numbers, of which the first ones are those of a function
+pub record Numbered (f : ℕ → ℕ) (n : ℕ) (numbers : List ℕ) (i : ℕ) : Type 0 where
+  pub long : length numbers ≡ n
+  pub first : take i numbers ≡ map f (range 0 i)
+
+pub numbers_begin : (f : ℕ → ℕ) (n : ℕ) (numbers : List ℕ) → length numbers ≡ n → Numbered f n numbers 0
 unfolding range
-range_last s zero = let e : s ≡ s + 0 = omega arith in ap (λ (k : ℕ). k ∷ []) e
-range_last s (suc n) = let e : suc s + n ≡ s + suc n = omega arith in ap (λ (l : List ℕ). s ∷ l) (range_last (suc s) n) ∙ ap (λ (k : ℕ). s ∷ (range (suc s) n ++ (k ∷ []))) e
+numbers_begin f n numbers l = record { long = l; first = refl }
 
--- the first so many are those of a function
-pub number_stored : (f : ℕ → ℕ) (items : List ℕ) (i x n : ℕ) → length items ≡ n → i < n → x ≡ f i → take i items ≡ map f (range 0 i) → take (i + 1) (set items i x) ≡ map f (range 0 (i + 1))
-number_stored f items i x n l h e t =
+numbers_turn : {f : ℕ → ℕ} {n i : ℕ} {numbers : List ℕ} {x : ℕ} → Numbered f n numbers i → i < n → x ≡ f i → Numbered f n (set numbers i x) (i + 1)
+unfolding range
+numbers_turn {f} {n} {i} {numbers} {x} s h e =
+    let l = s.long in
     let z : i ≡ 0 + i = omega arith in
-    let s : suc i ≡ i + 1 = omega arith in
-    take_more_set items i x (omega arith)
-    ∙ ((λ j. t j ++ ((e ∙ ap f z) j ∷ [])) ∙ (sym (map-append f (range 0 i) ((0 + i) ∷ [])) ∙ (ap (map f) (sym (range_last 0 i)) ∙ ap (λ (k : ℕ). map f (range 0 k)) s)))
+    let k : suc i ≡ i + 1 = omega arith in
+    record {
+      long = length-set numbers i x ∙ l;
+      first =
+          take_more_set numbers i x (omega arith)
+          ∙ ((λ j. s.first j ++ ((e ∙ ap f z) j ∷ [])) ∙ (sym (map-append f (range 0 i) ((0 + i) ∷ [])) ∙ (ap (map f) (sym (range_append 0 i 1 (suc i) (omega arith))) ∙ ap (λ (j : ℕ). map f (range 0 j)) k)));
+    }
 
-pub numbers_all : (f : ℕ → ℕ) (items : List ℕ) (i n : ℕ) → length items ≡ n → i ≡ n → take i items ≡ map f (range 0 i) → items ≡ map f (range 0 n)
-numbers_all f items i n l e t = sym (take_all n items (omega arith)) ∙ rw e at t
+-- one turn: the number of a block, and of a wire, that is read
+pub block_stored : (bytes : List ℕ) {numbers : List ℕ} {n i x : ℕ} {r : Record} → Numbered (block_read bytes) n numbers i → i < n → r ≡ record_in bytes (place_of 0 i) → x ≡ number_of (block_record (block_of r)) →
+    Numbered (block_read bytes) n (set numbers i x) (i + 1)
+block_stored bytes s h e f = numbers_turn s h (f ∙ ap (λ (r : Record). number_of (block_record (block_of r))) e)
+
+pub wire_stored : (bytes : List ℕ) (unit raise : ℕ) {numbers : List ℕ} {n i x : ℕ} {r : Record} → Numbered (wire_read bytes unit raise) n numbers i → i < n → r ≡ record_in bytes (place_of unit i) →
+    x ≡ number_of (wire_record (raised raise (wire_of r))) → Numbered (wire_read bytes unit raise) n (set numbers i x) (i + 1)
+wire_stored bytes unit raise s h e f = numbers_turn s h (f ∙ ap (λ (r : Record). number_of (wire_record (raised raise (wire_of r)))) e)
+
+pub numbers_all : {f : ℕ → ℕ} {n i : ℕ} {numbers : List ℕ} → Numbered f n numbers i → i ≡ n → numbers ≡ map f (range 0 n)
+numbers_all {f} {n} {i} {numbers} s e = let l = s.long in sym (take_all n numbers (omega arith)) ∙ rw e at s.first
 
 -- two lists, one lent behind the other: the first so many are both
 pub both_taken : (f g : ℕ → ℕ) (n k count : ℕ) (numbers : List ℕ) {a b : List ℕ} → count ≡ n + k → a ≡ map f (range 0 n) → b ≡ map g (range 0 k) →
     take count (put_mid n (count - n) (a ++ drop n numbers) b) ≡ map f (range 0 n) ++ map g (range 0 k)
 both_taken f g n k count numbers {a} {b} e p q =
-    let u = ap length p ∙ (length_map f (range 0 n) ∙ length_range 0 n) in
-    let v = ap length q ∙ (length_map g (range 0 k) ∙ length_range 0 k) in
+    let u = ap length p ∙ (length-map (range 0 n) f ∙ length_range 0 n) in
+    let v = ap length q ∙ (length-map (range 0 k) g ∙ length_range 0 k) in
     let l = length-append a (drop n numbers) in
     take-put_mid n (count - n) (a ++ drop n numbers) b count (omega arith) (omega arith) ∙ ((λ j. take_at a (drop n numbers) n (omega arith) j ++ b) ∙ (λ j. p j ++ q j))
 
 pub both_long : (f g : ℕ → ℕ) (n k : ℕ) → length (map f (range 0 n) ++ map g (range 0 k)) ≡ n + k
 both_long f g n k =
-    let a = length_map f (range 0 n) ∙ length_range 0 n in
-    let b = length_map g (range 0 k) ∙ length_range 0 k in
+    let a = length-map (range 0 n) f ∙ length_range 0 n in
+    let b = length-map (range 0 k) g ∙ length_range 0 k in
     length-append (map f (range 0 n)) (map g (range 0 k)) ∙ (omega arith)
 
 -- the records that are written of the blocks, and of the wires, of both
@@ -163,16 +151,14 @@ module _ (first second : List ℕ) (small : Bytes first) (small₂ : Bytes secon
 
 -- The result of two laid files.
 
-member_at : {A : Type 0} (l : List A) (i : ℕ) (d : A) → i < length l → Member (get_or l i d) l
-member_at [] i d h = absurd (omega arith)
-member_at (x ∷ l) zero d h = inl refl
-member_at (x ∷ l) (suc i) d h = inr (member_at l i d (omega arith))
+abbrev pub both_laid : (one two : File) → BothLaid one.bytes.now two.bytes.now one.shape.blocks one.shape.wires two.shape.blocks two.shape.wires
+both_laid one two = record { one = one.laid; two = two.laid }
 
 -- a file that is laid has so many blocks and wires, each read where it stands
 laid_from : (bytes : List ℕ) (n k : ℕ) → is_whole bytes ≡ true → is_laid bytes ≡ true → n ≡ length (unbytes bytes).blocks → k ≡ length (unbytes bytes).wires → Laid bytes n k
 unfolding is_laid
 laid_from bytes n k w e p q =
-    let both = both_true (units_right (unit_list bytes)) (view_right (unbytes bytes)) e in
+    let both = and_parts (units_right (unit_list bytes)) (view_right (unbytes bytes)) e in
     record {
       whole = w;
       answer = e;
@@ -213,7 +199,7 @@ module _ {first second : List ℕ} {blocks wires blocks₂ wires₂ : ℕ} (l : 
       let d = (l.two.wires_are).many in
       let e = length-append v.blocks w.blocks in
       let f = length-append v.wires (map (raised blocks) w.wires) in
-      let g = length_map (raised blocks) w.wires in
+      let g = length-map w.wires (raised blocks) in
       let p = ap (λ (u : View). length u.blocks) appended in
       let q = ap (λ (u : View). length u.wires) appended in
       (omega arith, omega arith)
@@ -231,11 +217,21 @@ module _ {first second : List ℕ} {blocks wires blocks₂ wires₂ : ℕ} (l : 
       let records = map block_record (v.blocks ++ w.blocks) in
       let a = units_of 1 records in
       let b = units_of 2 (map wire_record (v.wires ++ map (raised blocks) w.wires)) in
-      let n : length records ≡ blocks + blocks₂ = length_map block_record (v.blocks ++ w.blocks) ∙ (ap (λ (u : View). length u.blocks) (sym appended) ∙ counts.0) in
+      let n : length records ≡ blocks + blocks₂ = length-map (v.blocks ++ w.blocks) block_record ∙ (ap (λ (u : View). length u.blocks) (sym appended) ∙ counts.0) in
       let long : at ≡ 0 + length a = is_at ∙ (ap (λ (k : ℕ). 512 * units_for k) (sym n) ∙ (sym (units_length 1 (units_for (length records)) records) ∙ (omega arith))) in
       e₂ ∙ ((λ j. sets (e₁ j) (long j) b) ∙ (sets_append buffer 0 a b ∙ ap (λ (u : View). sets buffer 0 (bytes_of u)) (sym appended)))
 
   module _ (few : BothFew blocks wires blocks₂ wires₂) where
+    -- so few records fit the longest result
+    pub result_fits_longest : length (merged_file first second) ≤ 41984
+    unfolding file_length units_for
+    result_fits_longest =
+        let e = result_length in
+        let a = few.one in
+        let b = few.two in
+        let c = few.wires_few in
+        omega arith
+
     -- the second's ranks, raised, fit their fields
     pub raised_fit : RaisedFit second (units_for blocks₂) wires₂ blocks
     raised_fit i h =
@@ -245,7 +241,7 @@ module _ {first second : List ℕ} {blocks wires blocks₂ wires₂ : ℕ} (l : 
         let a = few.one in
         let b = few.two in
         let x = get_or w.wires i no_wire in
-        let there : Member x w.wires = member_at w.wires i no_wire (omega arith) in
+        let there : Member x w.wires = at_member w.wires i x (at_get w.wires i no_wire (omega arith)) in
         let e = r.each i h in
         let p = two_sound.source x there in
         let q = two_sound.target x there in
@@ -271,18 +267,13 @@ module _ {first second : List ℕ} {blocks wires blocks₂ wires₂ : ℕ} (l : 
           laid_from (merged_file first second) (blocks + blocks₂) (wires + wires₂) written.0 written.1 (sym (ap (λ (u : View). length u.blocks) said ∙ c.0))
           (sym (ap (λ (u : View). length u.wires) said ∙ c.1))
 
--- so few records fit the longest result
-pub result_fits_longest : {blocks wires blocks₂ wires₂ : ℕ} → BothFew blocks wires blocks₂ wires₂ → file_length (blocks + blocks₂) (wires + wires₂) ≤ 41984
-unfolding file_length units_for
-result_fits_longest few = let a = few.one in let b = few.two in let c = few.wires_few in omega arith
-
 -- Loading.
 
 pub both_few : {first second : List ℕ} {blocks wires blocks₂ wires₂ : ℕ} → BothLaid first second blocks wires blocks₂ wires₂ → Ok tt ≡ load_answer One first → Ok tt ≡ load_answer One second →
     BothFew blocks wires blocks₂ wires₂
 both_few {first} {second} l e f =
-    let a = loaded_few first (sym e) in
-    let b = loaded_few second (sym f) in
+    let a = loaded_few One first (sym e) in
+    let b = loaded_few One second (sym f) in
     let n = (l.one.blocks_are).many in
     let k = (l.two.blocks_are).many in
     let p = (l.one.wires_are).many in
@@ -339,18 +330,9 @@ module _ (first second buffer : List ℕ) where
 -- Writing.
 
 module _ (result buffer : List ℕ) (size : ℕ) (sized : size ≡ length result) where
-  pub result_short : length buffer < size → Err BufferShort ≡ result_answer result buffer
-  unfolding result_answer
-  result_short h = rw (lt-leb (length result) (length buffer) (omega arith))
-
   pub result_put : size ≤ length buffer → {after : List ℕ} → after ≡ sets buffer 0 result → (Ok size ≡ result_answer result buffer) × (after ≡ buffer_if (Ok size) result buffer)
   unfolding result_answer list_after
   result_put h e =
       let t = le-leb (length result) (length buffer) (omega arith) in
       let y : 0 + length result ≡ length result = omega arith in
       (rw t (ap Ok sized), rw t (e ∙ (sets-eq result buffer 0 (omega arith) ∙ ap (λ (k : ℕ). result ++ drop k buffer) y)))
-
-  -- as much as was written
-  pub result_taken : size ≤ length buffer → {after : List ℕ} → after ≡ sets buffer 0 result → take size after ≡ result
-  result_taken h e =
-      ap (take size) (e ∙ sets-eq result buffer 0 (omega arith)) ∙ take_at result (drop (0 + length result) buffer) size (sym sized)

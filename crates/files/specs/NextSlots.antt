@@ -28,8 +28,8 @@ use Rattle.multi_tables.specs.declared.answers.Refusal.TheVariants.{NoRoom}
 use Rattle.theorems.specs.Book.{Block, Book, empty_book, book_add}
 use Rattle.theorems.specs.History.{State, next, run_from, run_from_under, run, run_under, step}
 use Rattle.theorems.proofs.CallLaws.{call_law}
-use Rattle.files.specs.View.{BlockPorts, RankWire}
-use Rattle.files.specs.Loading.{block_at, first_port, out_port, in_port, add_of, after_call, first_refusal, first_refusal_under}
+use Rattle.files.specs.View.{BlockPorts}
+use Rattle.files.specs.Loading.{block_at, first_port, add_of, after_call, first_refusal, first_refusal_under}
 use Rattle.files.specs.Claims.{rank_in, At}
 use Rattle.multi_tables.specs.declared.answers.Refusal.{Refusal}
 
@@ -315,22 +315,3 @@ unfolding first_port
 first_port_next [] r h = absurd (omega arith)
 first_port_next (b ∷ bs) zero h = let z = first_port_first bs in omega arith
 first_port_next (b ∷ bs) (suc r) h = let e = first_port_next bs r (omega arith) in omega arith
-
--- no first port passes the sum of all
-pub first_port_most : (bs : List BlockPorts) (r : ℕ) → first_port bs r ≤ first_port bs (length bs)
-unfolding first_port
-first_port_most [] r = omega arith
-first_port_most (b ∷ bs) zero = omega arith
-first_port_most (b ∷ bs) (suc r) = let h = first_port_most bs r in omega arith
-
--- nor does the end of a block
-pub block_within : (bs : List BlockPorts) (r : ℕ) → r < length bs → first_port bs r + ((block_at bs r).incoming + (block_at bs r).outgoing) ≤ first_port bs (length bs)
-block_within bs r h = let a = first_port_next bs r h in let b = first_port_most bs (suc r) in omega arith
-
--- where all adds are accepted, the ports that links name are slots of the tables
-module _ (release : Release) (bs : List BlockPorts) (e : first_refusal (empty_graph release) (map add_of bs) ≡ Ok tt) (w : RankWire) where
-  pub out_port_in_table : w.source < length bs → w.output < (block_at bs w.source).outgoing → out_port bs w < port_slots
-  out_port_in_table h k = let a = block_within bs w.source h in let b = (next_slots release bs e).ports_fit in omega arith
-
-  pub in_port_in_table : w.target < length bs → w.input < (block_at bs w.target).incoming → in_port bs w < port_slots
-  in_port_in_table h k = let a = block_within bs w.target h in let b = (next_slots release bs e).ports_fit in omega arith

@@ -21,9 +21,8 @@ use Rattle.files.specs.Saving.{file_of}
 use Rattle.files.specs.Loading.{load_answer}
 use Rattle.files.specs.Claims.{rank_in, same_wire, how_many}
 use Rattle.files.specs.OrderLaws.{same_wire_equal, same_wire_self}
-use Rattle.files.specs.RankLaws.{rank_at, rank_booked}
+use Rattle.files.specs.RankLaws.{at_read, rank_at, rank_booked}
 use Rattle.files.specs.ViewLaws.{wire_fits, wires_viewed}
-use Rattle.files.specs.ViewSound.{at_read}
 use Rattle.files.specs.LoadClaims.{SameInput, SharesInput}
 use Rattle.files.specs.InputLaws.{counted, member_counted}
 use Rattle.files.specs.LoadAnswers.{saved_answers}

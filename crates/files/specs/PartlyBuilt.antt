@@ -1,10 +1,11 @@
 -- A build that is refused leaves less than the view says: each call enters one block or wire at most, and a refused one none.
+use Rattle.std.proofs.lemmas.List.{length-map}
 use Rattle.std.specs.Prelude.{◌≡◌, refl, Bool, not, List, [], ◌∷◌, map, ℕ, suc, ◌+◌, ◌≤◌, ◌<◌, length, Err, Option, Some, None, Result, Ok}
 use Rattle.std.proofs.Common.{sym, ap, ◌∙◌, ⊎_elim, arith, length-append}
 use Rattle.portgraph.specs.GoodSlots.{zero_is_not_one}
 use Rattle.multiportgraph.specs.Graph.{empty_graph}
 use Rattle.port_tables.specs.declared.release.Release.{Release}
-use Rattle.port_tables.specs.Listing.{length_map, filter_shorter}
+use Rattle.port_tables.specs.Listing.{filter_shorter}
 use Rattle.port_tables.specs.Places.{Place, Wire, Spot, nowhere, spot, touches, at_spot, at_end, of_node, of_dropped, without, next_offset}
 use Rattle.multi_tables.specs.declared.answers.Refusal.{Refusal}
 use Rattle.theorems.specs.Book as book
@@ -102,8 +103,8 @@ partly_built release v r e same =
     let f = (rel_run release (build_of v)).1.fine in
     let less = refused_enter_less (build_of v) (record { graph = empty_graph release; book = empty_book }) r e in
     let a = length-append (map add_of v.blocks) (map (link_of v.blocks) v.wires) in
-    let b = length_map add_of v.blocks in
-    let c = length_map (link_of v.blocks) v.wires in
+    let b = length-map v.blocks add_of in
+    let c = length-map v.wires (link_of v.blocks) in
     let x = ap (λ (u : View). length u.blocks) (sym same) ∙ (view_blocks f ∙ visible_nodes_of_history release (build_of v)) in
     let y = ap (λ (u : View). length u.wires) (sym same) ∙ (view_wires f ∙ visible_links_of_history release (build_of v)) in
     omega arith

@@ -1,16 +1,17 @@
 -- Laws of ranks: positions in a list without repeats, and that the rank of a block among the graph's blocks is its rank in the book.
-use Rattle.std.specs.Prelude.{◌≡◌, refl, Bool, true, false, cond, List, [], ◌∷◌, map, ◌⊎◌, ℕ, zero, suc, ◌<◌, eqb, length}
+use Rattle.std.specs.Prelude.{◌≡◌, refl, Bool, true, false, cond, List, [], ◌∷◌, map, ◌⊎◌, ℕ, zero, suc, ◌<◌, eqb, length, get_or}
 use Rattle.std.proofs.Math.Path.{sym}
 use Rattle.std.proofs.Common.{ap, ◌∙◌, subst, inl, inr, arith, eqb-true, eq-eqb, ne_eqb, lt-ltb, le-ltb}
 use Rattle.std.proofs.Math.Dec.{ltb}
 use Rattle.std.proofs.lemmas.Bool.{eqb-false}
+use Rattle.std.proofs.lemmas.List.{length-map}
 use Rattle.port_tables.specs.Lists.{Member, Rising}
 use Rattle.std.specs.List.{filter}
 use Rattle.portgraph.specs.Model.{Model}
 use Rattle.port_tables.specs.declared.node_entry.NodeMeta.{NodeMeta}
 use Rattle.multiportgraph.specs.Wires.{blocks}
 use Rattle.multiportgraph.specs.WellFormed.{BlockIs}
-use Rattle.port_tables.specs.Listing.{Apart, member_filter, filter_member, filter_none, member_map, map_member, rising_filter, rising_map}
+use Rattle.port_tables.specs.Listing.{Apart, member_filter, filter_member, filter_map, filter_none, member_map, map_member, rising_filter, rising_map}
 use Rattle.multiportgraph.specs.declared.multiportgraph.MultiPortGraph.{MultiPortGraph}
 use Rattle.theorems.specs.Book.{Block, Book}
 use Rattle.theorems.proofs.WireRule.{OtherNode, Rel}
@@ -26,6 +27,35 @@ module _ {A : Type 0} where
   at_member [] r x never = absurd never
   at_member (y ∷ l) zero x e = inl e
   at_member (y ∷ l) (suc r) x h = inr (at_member l r x h)
+
+  pub member_at : (x : A) (l : List A) → Member x l → (r : ℕ) × At l r x
+  member_at x [] never = absurd never
+  member_at x (y ∷ l) (inl e) = (0, e)
+  member_at x (y ∷ l) (inr i) = let h = member_at x l i in (suc h.0, h.1)
+
+  pub at_below : (l : List A) (r : ℕ) (x : A) → At l r x → r < length l
+  at_below [] r x never = absurd never
+  at_below (y ∷ l) zero x h = omega arith
+  at_below (y ∷ l) (suc r) x h = let k = at_below l r x h in omega arith
+
+  -- a position of a list has an item,
+  pub at_some : (l : List A) (i : ℕ) → i < length l → (x : A) × At l i x
+  at_some [] i h = absurd (omega arith)
+  at_some (x ∷ l) zero h = (x, refl)
+  at_some (x ∷ l) (suc i) h = at_some l i (omega arith)
+
+  -- and what stands there is read there
+  pub at_read : (l : List A) (r : ℕ) (x d : A) → At l r x → get_or l r d ≡ x
+  at_read [] r x d never = absurd never
+  at_read (y ∷ l) zero x d e = sym e
+  at_read (y ∷ l) (suc r) x d h = at_read l r x d h
+
+  pub at_get : (l : List A) (r : ℕ) (d : A) → r < length l → At l r (get_or l r d)
+  at_get l r d h = let k = at_some l r h in subst (At l r) (sym (at_read l r k.0 d k.1)) k.1
+
+  -- what holds of all that is read holds of each item
+  pub items_hold : (P : A → Type 0) (l : List A) (d : A) → ((i : ℕ) → i < length l → P (get_or l i d)) → (x : A) → Member x l → P x
+  items_hold P l d h x i = let k = member_at x l i in subst P (at_read l k.0 x d k.1) (h k.0 (at_below l k.0 x k.1))
 
   -- two lists with the same items at the same positions are equal
   pub same_positions : (a b : List A) → ((r : ℕ) (x : A) → At a r x → At b r x) → ((r : ℕ) (x : A) → At b r x → At a r x) → a ≡ b
@@ -94,16 +124,6 @@ rank_counts (k ∷ l) r n (inr i) =
 abbrev pub node_of : Block → ℕ
 node_of b = b.node
 
-filter_nodes : (n : ℕ) (l : List Block) → length (filter (λ (b : Block). ltb b.node n) l) ≡ length (filter (λ k. ltb k n) (map node_of l))
-filter_nodes n [] = refl
-filter_nodes n (b ∷ l) = go (ltb b.node n) (filter_nodes n l)
-  where
-    go : (t : Bool) → length (filter (λ (b : Block). ltb b.node n) l) ≡ length (filter (λ k. ltb k n) (map node_of l)) →
-        length (cond t (b ∷ filter (λ (b : Block). ltb b.node n) l) (filter (λ (b : Block). ltb b.node n) l))
-        ≡ length (cond t (b.node ∷ filter (λ k. ltb k n) (map node_of l)) (filter (λ k. ltb k n) (map node_of l)))
-    go true e = ap suc e
-    go false e = e
-
 module _ {m : MultiPortGraph} {M : Model} {B : Book} (r : Rel m M B) where
   pub booked_block : (n : ℕ) (k : NodeMeta) → BlockIs m M n k → Member n (blocks m)
   booked_block n k b = (blocks_list r.fine).all n k b
@@ -130,4 +150,4 @@ module _ {m : MultiPortGraph} {M : Model} {B : Book} (r : Rel m M B) where
       (rising_filter Apart (λ k. ltb k n) (map node_of B.blocks) (rising_map OtherNode Apart node_of B.blocks r.blocks.once (λ a c x y l. l)))
       (λ k j. let h = member_filter (λ k. ltb k n) k (blocks m) j in filter_member (λ k. ltb k n) k (map node_of B.blocks) (block_booked k h.0) h.1)
       (λ k j. let h = member_filter (λ k. ltb k n) k (map node_of B.blocks) j in filter_member (λ k. ltb k n) k (blocks m) (book_blocks k h.0) h.1)
-      ∙ sym (filter_nodes n B.blocks))
+      ∙ (ap length (filter_map node_of (λ k. ltb k n) B.blocks) ∙ length-map (filter (λ (b : Block). ltb b.node n) B.blocks) node_of))

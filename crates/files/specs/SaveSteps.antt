@@ -11,7 +11,7 @@ use Rattle.std.proofs.Math.Dec.{eqb}
 use Rattle.std.proofs.Math.ListN.{length, get_or, drop, get_or-append}
 use Rattle.std.proofs.Math.Seq.{sets, get_or-set_same, get_or-set_other}
 use Rattle.std.proofs.lemmas.List.Edits.{sets-eq}
-use Rattle.std.proofs.lemmas.List.{set_at, length-replicate}
+use Rattle.std.proofs.lemmas.List.{length-map, set_at, length-replicate, map-id}
 use borrow.Author.Tests.{eqb-true, eqb-false, le-leb, lt-leb}
 use Rattle.std.proofs.lemmas.Simd.{map-map}
 use Rattle.port_tables.specs.Limits.{node_slots, port_slots, node_ports}
@@ -25,7 +25,7 @@ use Rattle.multiportgraph.specs.WellFormed.{Fine, MultiWf}
 use Rattle.multiportgraph.specs.Wires.{blocks, all_wires, wires_walked, wire_places, place_of}
 use Rattle.multiportgraph.specs.Listed.{end_numbers, wire_numbers, wires_listed, block_numbers, blocks_listed, list_after}
 use Rattle.multiportgraph.specs.ListReads.{wires_length, blocks_length, block_length, wire_length, few_blocks}
-use Rattle.port_tables.specs.Listing.{Apart, member_map, map_member, member_range, length_map, length_range, numbers_apart}
+use Rattle.port_tables.specs.Listing.{Apart, member_map, map_member, map_same_on, member_range, length_range, numbers_apart}
 use Rattle.multiportgraph.specs.CountLaws.{visible_nodes_lem, visible_links_lem}
 use Rattle.multiportgraph.specs.declared.multiportgraph.MultiPortGraph.{MultiPortGraph}
 use Rattle.multi_tables.specs.declared.answers.SubportLink.{SubportLink}
@@ -35,11 +35,11 @@ use Rattle.files.specs.LayoutLaws.{units_length}
 use Rattle.files.specs.Saving.{file_of, save_answer, save_buffer}
 use Rattle.files.specs.Claims.{At}
 use Rattle.files.specs.OrderLaws.{sorted_member}
-use Rattle.files.specs.RankLaws.{at_member, rank_below}
-use Rattle.files.specs.ViewLaws.{EndFits, walked_places, walked_fits, ports_small, node_in_use, wires_few, file_length_is}
+use Rattle.files.specs.RankLaws.{at_member, at_some, rank_below}
+use Rattle.files.specs.ViewLaws.{EndFits, walked_fits, ports_small, node_in_use, wires_few, links_walked, file_length_is}
 use Rattle.files.specs.Forms.{number_of, record_of, turns, sorted_numbers, blocks_in, node_listed, block_listed, nodes_of, blocks_of, BlocksFit, rank_turn, block_turn, wires_in, wire_listed, wires_of, rank_read, WiresFit, wire_turn, Listings, wire_number}
 use Rattle.files.specs.SortSteps.{number_back, sorted_as_numbers}
-use Rattle.multiportgraph.specs.WalkRule.{blocks_rise, blocks_are_few}
+use Rattle.multiportgraph.specs.WalkRule.{walked_places, blocks_rise, blocks_are_few}
 
 -- Ranks.
 
@@ -102,14 +102,10 @@ numbers_stored f (suc n) i sofar (z ∷ rest) e h =
 -- the first so many of them
 numbers_taken : (f : ℕ → ℕ) (n : ℕ) (numbers : List ℕ) → n ≤ length numbers → take n (turns (λ j l. set l j (f j)) 0 n numbers) ≡ map f (range 0 n)
 numbers_taken f n numbers h =
-    ap (take n) (numbers_stored f n 0 [] numbers refl h) ∙ take_at (map f (range 0 n)) (drop n numbers) n (length_map f (range 0 n) ∙ length_range 0 n)
+    ap (take n) (numbers_stored f n 0 [] numbers refl h) ∙ take_at (map f (range 0 n)) (drop n numbers) n (length-map (range 0 n) f ∙ length_range 0 n)
 
 pub records_back : {A : Type 0} (f : A → Record) (l : List A) → ((x : A) → Member x l → FieldsFit (f x)) → map record_of (map (λ x. number_of (f x)) l) ≡ map f l
-records_back f [] h = refl
-records_back f (x ∷ l) h =
-    let a = number_back (f x) (h x (inl refl)) in
-    let b = records_back f l (λ y i. h y (inr i)) in
-    λ j. a j ∷ b j
+records_back f l h = map-map record_of (λ x. number_of (f x)) l ∙ map_same_on (λ x. record_of (number_of (f x))) f l (λ x i. number_back (f x) (h x i))
 
 -- the records that are written of the blocks of a listing
 pub block_records : (listed numbers : List ℕ) → blocks_in listed ≤ length numbers → BlocksFit listed →
@@ -129,7 +125,7 @@ module _ {listed ends : List ℕ} (table : List ℕ) (p : Listings listed ends (
 
   nodes_many : length (nodes_of listed) ≡ blocks_in listed
   unfolding nodes_of
-  nodes_many = length_map (node_listed listed) (range 0 (blocks_in listed)) ∙ length_range 0 (blocks_in listed)
+  nodes_many = length-map (range 0 (blocks_in listed)) (node_listed listed) ∙ length_range 0 (blocks_in listed)
 
   rank_is : (n : ℕ) → Member n (nodes_of listed) → get_or ranks n 0 ≡ rank_among (nodes_of listed) n
   rank_is n i = ranks_read listed table p.apart p.in_table n i
@@ -151,18 +147,15 @@ module _ {listed ends : List ℕ} (table : List ℕ) (p : Listings listed ends (
         d = let k = p.input i h in omega arith;
       }
 
-  wires_same : (n i : ℕ) → ((j : ℕ) → j < i + n → j < wires_in ends) → map (wire_listed (rank_read ranks) ends) (range i n) ≡ map (wire_listed (rank_among (nodes_of listed)) ends) (range i n)
-  unfolding range
-  wires_same zero i h = refl
-  wires_same (suc n) i h =
-      let a = rank_is (get_or ends (8 * i + 2) 0) (p.source i (h i (omega arith))) in
-      let b = rank_is (get_or ends (8 * i + 6) 0) (p.target i (h i (omega arith))) in
-      let r = wires_same n (suc i) (λ j k. h j (omega arith)) in
-      λ j. record { source = a j; output = get_or ends (8 * i + 3) 0; target = b j; input = get_or ends (8 * i + 7) 0 } ∷ r j
-
   wires_ranked : wires_of (rank_read ranks) ends ≡ wires_of (rank_among (nodes_of listed)) ends
   unfolding wires_of
-  wires_ranked = wires_same (wires_in ends) 0 (λ j k. omega arith)
+  wires_ranked =
+      map_same_on (wire_listed (rank_read ranks) ends) (wire_listed (rank_among (nodes_of listed)) ends) (range 0 (wires_in ends))
+      (λ i m.
+      let r = member_range i 0 (wires_in ends) m in
+      let a = rank_is (get_or ends (8 * i + 2) 0) (p.source i (omega arith)) in
+      let b = rank_is (get_or ends (8 * i + 6) 0) (p.target i (omega arith)) in
+      λ j. record { source = a j; output = get_or ends (8 * i + 3) 0; target = b j; input = get_or ends (8 * i + 7) 0 })
 
   wires_small : (w : RankWire) → Member w (wires_of (rank_read ranks) ends) → FieldsFit (wire_record w)
   unfolding wires_of
@@ -202,7 +195,7 @@ listed_number k f h j s (y ∷ l) (suc i) x e =
     rw z (get_or-append-add (f y) (flat_map f l) (k * i + j) 0 ∙ listed_number k f h j s l i x e)
 
 -- what is read at each position of a list
-listed_map : {A B : Type 0} (g : ℕ → B) (f : A → B) (l : List A) (s : ℕ) → ((i : ℕ) (x : A) → At l i x → g (s + i) ≡ f x) → map g (range s (length l)) ≡ map f l
+pub listed_map : {A B : Type 0} (g : ℕ → B) (f : A → B) (l : List A) (s : ℕ) → ((i : ℕ) (x : A) → At l i x → g (s + i) ≡ f x) → map g (range s (length l)) ≡ map f l
 unfolding range
 listed_map g f [] s h = refl
 listed_map g f (x ∷ l) s h =
@@ -210,16 +203,6 @@ listed_map g f (x ∷ l) s h =
     let a = ap g (sym z) ∙ h 0 x refl in
     let b = listed_map g f l (suc s) (λ i y k. ap g (omega arith) ∙ h (suc i) y k) in
     λ j. a j ∷ b j
-
-map_self : {A : Type 0} (l : List A) → map (λ (x : A). x) l ≡ l
-map_self [] = refl
-map_self (x ∷ l) = ap (λ k. x ∷ k) (map_self l)
-
--- a position of a list has an item
-at_some : {A : Type 0} (l : List A) (i : ℕ) → i < length l → (x : A) × At l i x
-at_some [] i h = absurd (omega arith)
-at_some (x ∷ l) zero h = (x, refl)
-at_some (x ∷ l) (suc i) h = at_some l i (omega arith)
 
 module _ (m : MultiPortGraph) where
   pub blocks_lent : blocks_in (blocks_listed m) ≡ length (blocks m)
@@ -260,7 +243,7 @@ module _ (m : MultiPortGraph) where
   unfolding nodes_of
   nodes_are =
       ap (λ (n : ℕ). map (node_listed (blocks_listed m)) (range 0 n)) blocks_lent
-      ∙ (listed_map (node_listed (blocks_listed m)) (λ (n : ℕ). n) (blocks m) 0 (λ i n h. let z : 0 + i ≡ i = omega arith in rw z (node_read i n h)) ∙ map_self (blocks m))
+      ∙ (listed_map (node_listed (blocks_listed m)) (λ (n : ℕ). n) (blocks m) 0 (λ i n h. let z : 0 + i ≡ i = omega arith in rw z (node_read i n h)) ∙ map-id (blocks m))
 
   pub blocks_are : blocks_of (blocks_listed m) ≡ map (block_ports m) (blocks m)
   unfolding blocks_of
@@ -341,7 +324,7 @@ module _ {m : MultiPortGraph} {M : Model} (f : Fine m M) where
       let a = visible_links_lem f in
       let b = wires_length m in
       let c = wires_few f in
-      let d = ap length (walked_places f) ∙ length_map (wire_places m) (all_wires m) in
+      let d = links_walked f in
       (omega arith, omega arith)
 
 module _ {m : MultiPortGraph} (wf : MultiWf m) where
@@ -349,24 +332,29 @@ module _ {m : MultiPortGraph} (wf : MultiWf m) where
   visible_links_few = let h = listed_wires wf.fine _ refl in omega (arith, h.0, h.1)
 
   -- the parts of the lists that have the listings
-  module _ {n room : ℕ} {list : List ℕ} where
-    pub blocks_taken : n ≡ visible_nodes m → 4 * visible_nodes m ≤ room → list ≡ list_after (blocks_listed m) (replicate room 0) → take (4 * n) list ≡ blocks_listed m
-    blocks_taken e h p = let k = listed_blocks wf.fine n e in let l = length-replicate {A = ℕ} room 0 in ap (take (4 * n)) p ∙ listing_taken (blocks_listed m) (replicate room 0) (4 * n) k.0 (omega arith)
+  pub blocks_taken : {n : ℕ} {list : List ℕ} (list₀ : List ℕ) → n ≡ visible_nodes m → 4 * visible_nodes m ≤ length list₀ → list ≡ list_after (blocks_listed m) list₀ → take (4 * n) list ≡ blocks_listed m
+  blocks_taken {n} list₀ e h p = let k = listed_blocks wf.fine n e in ap (take (4 * n)) p ∙ listing_taken (blocks_listed m) list₀ (4 * n) k.0 (omega arith)
 
-    pub wires_taken : n ≡ visible_links m → 8 * visible_links m ≤ room → list ≡ list_after (wires_listed m) (replicate room 0) → take (8 * n) list ≡ wires_listed m
-    wires_taken e h p = let k = listed_wires wf.fine n e in let l = length-replicate {A = ℕ} room 0 in ap (take (8 * n)) p ∙ listing_taken (wires_listed m) (replicate room 0) (8 * n) k.0 (omega arith)
+  pub wires_taken : {n : ℕ} {list : List ℕ} (list₀ : List ℕ) → n ≡ visible_links m → 8 * visible_links m ≤ length list₀ → list ≡ list_after (wires_listed m) list₀ → take (8 * n) list ≡ wires_listed m
+  wires_taken {n} list₀ e h p = let k = listed_wires wf.fine n e in ap (take (8 * n)) p ∙ listing_taken (wires_listed m) list₀ (8 * n) k.0 (omega arith)
 
   -- and of lists that have room for every one
   module _ {n : ℕ} (counted : n ≡ visible_nodes m) where
+    pub blocks_within : {room : ℕ} {list : List ℕ} → 4 * visible_nodes m ≤ room → list ≡ list_after (blocks_listed m) (replicate room 0) → take (4 * n) list ≡ blocks_listed m
+    blocks_within {room} h e = let l = length-replicate {A = ℕ} room 0 in blocks_taken (replicate room 0) counted (omega arith) e
+
     pub blocks_first : {list : List ℕ} → list ≡ list_after (blocks_listed m) (replicate (4 * node_slots) 0) → take (4 * n) list ≡ blocks_listed m
-    blocks_first e = let h = few_blocks m wf in blocks_taken {room = 4 * node_slots} counted (omega arith) e
+    blocks_first e = blocks_within {room = 4 * node_slots} (omega (arith, few_blocks m wf)) e
 
     pub blocks_long : length (blocks_listed m) ≡ 4 * n
     blocks_long = sym (listed_blocks wf.fine n counted).0
 
   module _ {n : ℕ} (counted : n ≡ visible_links m) where
+    pub wires_within : {room : ℕ} {list : List ℕ} → 8 * visible_links m ≤ room → list ≡ list_after (wires_listed m) (replicate room 0) → take (8 * n) list ≡ wires_listed m
+    wires_within {room} h e = let l = length-replicate {A = ℕ} room 0 in wires_taken (replicate room 0) counted (omega arith) e
+
     pub wires_first : {list : List ℕ} → list ≡ list_after (wires_listed m) (replicate (4 * port_slots) 0) → take (8 * n) list ≡ wires_listed m
-    wires_first e = let h = visible_links_few in wires_taken {room = 4 * port_slots} counted (omega arith) e
+    wires_first e = wires_within {room = 4 * port_slots} (omega (arith, visible_links_few)) e
 
     pub wires_long : length (wires_listed m) ≡ 8 * n
     wires_long = sym (listed_wires wf.fine n counted).0
@@ -434,7 +422,7 @@ module _ {m : MultiPortGraph} {M : Model} (f : Fine m M) (buffer : List ℕ) (si
       unfolding units_of blocks_of
       saved buffer₂ e₁ e₂ =
           let records = map block_record (blocks_of listed) in
-          let n = length_map block_record (blocks_of listed) ∙ (length_map (block_listed listed) (range 0 (blocks_in listed)) ∙ length_range 0 (blocks_in listed)) in
+          let n = length-map (blocks_of listed) block_record ∙ (length-map (range 0 (blocks_in listed)) (block_listed listed) ∙ length_range 0 (blocks_in listed)) in
           let long : at ≡ length (units_of 1 records) = is_at ∙ (ap (λ (k : ℕ). 512 * units_for k) (sym n) ∙ sym (units_length 1 (units_for (length records)) records)) in
           save_full buffer₁ buffer₂ (units_of 1 records) (units_of 2 (map wire_record (sorted (wires_of (rank_among (nodes_of listed)) ends)))) at enough long e₁ e₂ (whole ∙ file_is m f)
         where

@@ -2,7 +2,7 @@
 use Rattle.std.specs.List.{list_all}
 use Rattle.std.specs.Prelude.{◌≡◌, refl, Bool, true, false, not, ◌&&◌, List, [], ◌∷◌, ◌++◌, map, ℕ, zero, suc, ◌/◌, eqb, ltb, length, drop}
 use Rattle.std.proofs.Common.{sym, ap, ◌∙◌, subst, inl, inr, ⊎_elim, arith, ltb-true, lt-ltb}
-use Rattle.std.proofs.lemmas.Bool.{not-true}
+use Rattle.std.proofs.lemmas.Bool.{and_parts, not-true}
 use Rattle.port_tables.specs.Lists.{Member, Rising}
 use Rattle.port_tables.specs.Listing.{member_append, member_map, map_member}
 use Rattle.files.specs.View.{RankWire, View, is_before}
@@ -10,7 +10,6 @@ use Rattle.files.specs.Layout.{Record, block_record, wire_record, field_at, bloc
 use Rattle.files.specs.Loading.{block_at, order_right, ranks_right, positions_right, unit_list, units_right, view_right, is_laid}
 use Rattle.files.specs.Claims.{AtMost, Sound, Bytes}
 use Rattle.files.specs.OrderLaws.{at_most_twice}
-use Rattle.files.specs.LaidLaws.{both_true}
 use Rattle.files.specs.WrittenLaws.{bytes_after, field_small}
 
 -- Tests of all items.
@@ -18,8 +17,8 @@ use Rattle.files.specs.WrittenLaws.{bytes_after, field_small}
 module _ {A : Type 0} (f : A → Bool) where
   pub every_item : (l : List A) → list_all f l ≡ true → (x : A) → Member x l → f x ≡ true
   every_item [] e x never = absurd never
-  every_item (y ∷ l) e x (inl p) = ap f p ∙ (both_true (f y) (list_all f l) e).0
-  every_item (y ∷ l) e x (inr i) = every_item l (both_true (f y) (list_all f l) e).1 x i
+  every_item (y ∷ l) e x (inl p) = ap f p ∙ (and_parts (f y) (list_all f l) e).0
+  every_item (y ∷ l) e x (inr i) = every_item l (and_parts (f y) (list_all f l) e).1 x i
 
   pub item_every : (l : List A) → ((x : A) → Member x l → f x ≡ true) → list_all f l ≡ true
   item_every [] h = refl
@@ -32,7 +31,7 @@ unfolding order_right
 order_rises [] e = tt
 order_rises (w ∷ []) e = ((λ y i. absurd i), tt)
 order_rises (w ∷ v ∷ l) e =
-    let h = both_true (not (is_before v w)) (order_right (v ∷ l)) e in
+    let h = and_parts (not (is_before v w)) (order_right (v ∷ l)) e in
     let n : AtMost w v = not-true (is_before v w) h.0 in
     let r = order_rises (v ∷ l) h.1 in
     ((λ y. ⊎_elim (λ p. subst (AtMost w) (sym p) n) (λ i. at_most_twice w v y n (r.0 y i))), r)
@@ -49,12 +48,12 @@ pub right_sound : (v : View) → view_right v ≡ true → Sound v
 unfolding view_right ranks_right positions_right
 right_sound v e =
     let wires = v.wires in
-    let h = both_true (order_right wires) (list_all (ranks_right v.blocks) wires && list_all (positions_right v.blocks) wires) e in
-    let k = both_true (list_all (ranks_right v.blocks) wires) (list_all (positions_right v.blocks) wires) h.1 in
+    let h = and_parts (order_right wires) (list_all (ranks_right v.blocks) wires && list_all (positions_right v.blocks) wires) e in
+    let k = and_parts (list_all (ranks_right v.blocks) wires) (list_all (positions_right v.blocks) wires) h.1 in
     let ranks : (w : RankWire) → Member w wires → (ltb w.source (length v.blocks) ≡ true) × (ltb w.target (length v.blocks) ≡ true) =
-    λ w i. both_true _ _ (every_item (ranks_right v.blocks) wires k.0 w i) in
+    λ w i. and_parts _ _ (every_item (ranks_right v.blocks) wires k.0 w i) in
     let ports : (w : RankWire) → Member w wires → (ltb w.output (block_at v.blocks w.source).outgoing ≡ true) × (ltb w.input (block_at v.blocks w.target).incoming ≡ true) =
-    λ w i. both_true _ _ (every_item (positions_right v.blocks) wires k.1 w i) in
+    λ w i. and_parts _ _ (every_item (positions_right v.blocks) wires k.1 w i) in
     record {
       rise = order_rises wires h.0;
       source = λ w i. ltb-true _ _ (ranks w i).0;
@@ -75,7 +74,7 @@ sound_right v s =
 -- a laid file says a sound view
 pub laid_sound : (b : List ℕ) → is_laid b ≡ true → Sound (unbytes b)
 unfolding is_laid
-laid_sound b e = right_sound (unbytes b) (both_true (units_right (unit_list b)) (view_right (unbytes b)) e).1
+laid_sound b e = right_sound (unbytes b) (and_parts (units_right (unit_list b)) (view_right (unbytes b)) e).1
 
 -- Fields.
 

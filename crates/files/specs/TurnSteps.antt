@@ -1,14 +1,17 @@
 -- Loops turn by turn: what is left of a loop amounts to the whole.
-use Rattle.std.specs.Prelude.{◌≡◌, List, ◌++◌, length, get_or, drop, ◌^◌}
+use Rattle.std.specs.Prelude.{◌≡◌, List, ◌++◌, length, get_or, set, drop, ◌^◌}
 use Rattle.std.specs.Iterator.Adapters.{enumerate_source, enumerate_count}
 use Rattle.std.specs.Slice.Iter.{chunks_exact_rest, chunks_exact_size, chunks_exact_remainder}
 use Rattle.std.specs.declared.iter.Enumerate.{Enumerate}
 use Rattle.std.specs.declared.slice.ChunksExact.{ChunksExact}
-use Rattle.std.proofs.Common.{sym, ap, ◌∙◌, length-append, length-drop, drop_at, drop-drop, get_or-drop, mul-suc}
+use Rattle.std.proofs.Common.{sym, ap, ◌∙◌, length-append, length-drop, drop_at, drop-drop, get_or-drop}
 use Rattle.std.proofs.Math.ListN.{get_or-append}
+use Rattle.std.proofs.Math.Nat.{mul-add}
 use Prim.Native.Nat.{ℕ, suc, ◌+◌, ◌-◌, ◌*◌, ◌≤◌, ◌<◌}
 use native.Mathlib.Omega.{arith}
-use Rattle.files.specs.Forms.{turns, node_listed, block_listed, wire_listed}
+use Rattle.files.specs.View.{BlockPorts, RankWire}
+use Rattle.files.specs.Layout.{block_record, wire_record}
+use Rattle.files.specs.Forms.{number_of, turns, node_listed, block_listed, wire_listed, rank_read, rank_turn, block_turn, wire_turn}
 
 module _ (step : ℕ → List ℕ → List ℕ) where
   turn_made : (i n : ℕ) (l : List ℕ) → i < n → turns step (i + 1) (n - (i + 1)) (step i l) ≡ turns step i (n - i) l
@@ -27,12 +30,6 @@ module _ (step : ℕ → List ℕ → List ℕ) where
 
 -- Loops over a list in parts of one length.
 
-mul_next : (k i : ℕ) → k * (i + 1) ≡ k + k * i
-mul_next k i =
-    let s : i + 1 ≡ suc i = omega arith in
-    let m : k * (i + 1) ≡ k * i + k = ap (λ (n : ℕ). k * n) s ∙ mul-suc k i in
-    omega arith
-
 -- what is left after so many parts
 pub record Parts (k : ℕ) (l rest : List ℕ) (i : ℕ) : Type 0 where
   pub left : rest ≡ drop (k * i) l
@@ -48,7 +45,7 @@ module _ {k : ℕ} {l rest : List ℕ} {i : ℕ} (p : Parts k l rest i) where
 
     pub parts_next : {i' : ℕ} → i' ≡ i + 1 → Parts k l next i'
     parts_next {i'} s =
-        let m : k * (i + 1) ≡ k + k * i = mul_next k i in
+        let m = mul-add k i 1 in
         let d : drop k rest ≡ next = ap (drop k) e ∙ drop_at part next k n in
         let h = part_there in
         rw s
@@ -90,7 +87,7 @@ module _ {k n : ℕ} {step : ℕ → List ℕ → List ℕ} {l out₀ : List ℕ
     pub part_number : (j : ℕ) → j < k → get_or part j 0 ≡ get_or l (k * i + j) 0
     part_number j h = part_read w.parts part _ x.0.1.0 (x.0.1.1 ∙ w.sized) j h ∙ ap (λ (m : ℕ). get_or l (k * m + j) 0) (sym x.1)
 
-    pub turning : {out' : List ℕ} → out' ≡ step i out → Turning k n step l out₀ t out'
+    turning : {out' : List ℕ} → out' ≡ step i out → Turning k n step l out₀ t out'
     turning e =
         let a = x.1 in
         let b = part_below in
@@ -105,13 +102,26 @@ module _ {k n : ℕ} {step : ℕ → List ℕ → List ℕ} {l out₀ : List ℕ
 
 module _ {n : ℕ} {step : ℕ → List ℕ → List ℕ} {l out₀ : List ℕ} {s : Enumerate (ChunksExact ℕ)} {out : List ℕ} {i : ℕ} where
   module _ (w : Turning 4 n step l out₀ s out) (part : List ℕ) (t : Enumerate (ChunksExact ℕ)) (x : Taken s i part t) where
-    pub node_part : get_or part 0 0 ≡ node_listed l i
+    node_part : get_or part 0 0 ≡ node_listed l i
     node_part = let z : 4 * i + 0 ≡ 4 * i = omega arith in part_number w part t x 0 (omega arith) ∙ ap (λ (k : ℕ). get_or l k 0) z
 
-    pub block_part : block_listed part 0 ≡ block_listed l i
+    block_part : block_listed part 0 ≡ block_listed l i
     block_part = let r = part_number w part t x in λ j. record { incoming = r 1 (omega arith) j; outgoing = r 2 (omega arith) j }
 
   pub wire_part : Turning 8 n step l out₀ s out → (part : List ℕ) (t : Enumerate (ChunksExact ℕ)) → Taken s i part t → (rank : ℕ → ℕ) → wire_listed rank part 0 ≡ wire_listed rank l i
   wire_part w part t x rank =
       let r = part_number w part t x in
       λ j. record { source = rank (r 2 (omega arith) j); output = r 3 (omega arith) j; target = rank (r 6 (omega arith) j); input = r 7 (omega arith) j }
+
+-- One turn: what the part says is stored.
+
+module _ {n : ℕ} {l out₀ : List ℕ} {s t : Enumerate (ChunksExact ℕ)} {out : List ℕ} {i : ℕ} (part : List ℕ) where
+  pub rank_turned : Turning 4 n (rank_turn l) l out₀ s out → Taken s i part t → {out' : List ℕ} → out' ≡ set out (get_or part 0 0) i → Turning 4 n (rank_turn l) l out₀ t out'
+  rank_turned w x e = turning w part t x (rw (node_part w part t x) at e)
+
+  pub block_turned : Turning 4 n (block_turn l) l out₀ s out → Taken s i part t → {v : ℕ} → v ≡ number_of (block_record (block_listed part 0)) → Turning 4 n (block_turn l) l out₀ t (set out i v)
+  block_turned w x e = turning w part t x (ap (set out i) (e ∙ ap (λ (b : BlockPorts). number_of (block_record b)) (block_part w part t x)))
+
+  pub wire_turned : (ranks : List ℕ) → Turning 8 n (wire_turn l ranks) l out₀ s out → Taken s i part t → {v : ℕ} → v ≡ number_of (wire_record (wire_listed (rank_read ranks) part 0)) →
+      Turning 8 n (wire_turn l ranks) l out₀ t (set out i v)
+  wire_turned ranks w x e = turning w part t x (ap (set out i) (e ∙ ap (λ (v : RankWire). number_of (wire_record v)) (wire_part w part t x (rank_read ranks))))

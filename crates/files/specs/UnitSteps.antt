@@ -8,10 +8,10 @@ use Rattle.std.proofs.Common.{Bor, ◌∙◌, leb-true, leb-false, length-drop, 
 use mathlib.Core.List.{List, [], ◌∷◌, ◌++◌, map, flat_map, append_assoc, append-nil}
 use native.Mathlib.Omega.{arith}
 use Rattle.std.proofs.Math.ListN.{length, length-append, length-replicate}
-use Rattle.std.proofs.lemmas.List.{nil_from_length, map-append}
+use Rattle.std.proofs.lemmas.List.{length-map, nil_from_length, map-append}
 use Rattle.std.proofs.Math.Seq.{sets, length-sets}
 use Rattle.std.proofs.lemmas.List.Edits.{sets-eq}
-use Rattle.port_tables.specs.Listing.{length_map, zero_is_not_one}
+use Rattle.port_tables.specs.Listing.{zero_is_not_one}
 use Rattle.multiportgraph.specs.ListScans.{Writing}
 use Rattle.multiportgraph.specs.ListSteps.{laid}
 use Rattle.portgraph.specs.Model.{total}
@@ -143,7 +143,7 @@ module _ (numbers : List ℕ) (few : length numbers ≤ unit_records) where
   records = map record_of numbers
 
   many : length records ≡ length numbers
-  many = length_map record_of numbers
+  many = length-map numbers record_of
 
   -- kind, count and records are the head
   head_laid : (l l₁ l₂ l₃ : List ℕ) (at kind : ℕ) → l₁ ≡ sets l at (field_bytes kind) → l₂ ≡ sets l₁ (at + 2) (field_bytes (length numbers))
@@ -194,9 +194,9 @@ module _ (kind : ℕ) where
   units_on : (rest part next : List ℕ) → 0 < length rest → rest ≡ part ++ next → length part ≡ min unit_records (length rest) → units_said rest ≡ unit kind (map record_of part) ++ units_said next
   unfolding units_of units_from units_for
   units_on rest part next some e n =
-      let a = length_map record_of rest in
-      let b = length_map record_of part in
-      let c = length_map record_of next in
+      let a = length-map rest record_of in
+      let b = length-map part record_of in
+      let c = length-map next record_of in
       let l = ap length e ∙ length-append part next in
       let m : map record_of rest ≡ map record_of part ++ map record_of next = ap (map record_of) e ∙ map-append record_of part next in
       let f = first_unit (map record_of rest) (map record_of part) (map record_of next) m (omega arith) in
@@ -213,7 +213,7 @@ module _ (kind : ℕ) where
     pub laying_ends : length rest ≡ 0 → l ≡ sets l₀ at (units_said numbers)
     unfolding units_of units_from units_for
     laying_ends h =
-        let a = length_map record_of rest in
+        let a = length-map rest record_of in
         let z : (length (map record_of rest) + 62) / 63 ≡ 0 = omega arith in
         let e : units_said rest ≡ [] = ap (λ (k : ℕ). units_from kind k (map record_of rest)) z in
         ap (sets l p) (sym e) ∙ w.same
@@ -223,18 +223,21 @@ module _ (kind : ℕ) where
       unfolding units_for
       unit_room r = let a = w.counted in let b = w.long in omega arith
 
-      pub unit_turn : {l' : List ℕ} {here there : ℕ} → here ≡ p → there ≡ p + 512 → l' ≡ sets l here (unit kind (map record_of part)) → Laying numbers next l₀ l' at there
-      unfolding units_for
-      unit_turn {l'} {here} {there} h t laid_here =
-          let g : l' ≡ sets l p (unit kind (map record_of part)) = rw h at laid_here in
-          let u = unit kind (map record_of part) in
-          let k = length_map record_of part in
-          let c : length u ≡ 512 = unit_length kind (map record_of part) (omega arith) in
-          let m = ap length e ∙ length-append part next in
-          let a = w.counted in
-          let q : there ≡ p + length u = omega arith in
-          record {
-            counted = omega arith;
-            same = (λ j. sets (g j) (q j) (units_said next)) ∙ (sets_append l p u (units_said next) ∙ (ap (sets l p) (sym (units_on rest part next some e n)) ∙ w.same));
-            long = ap length g ∙ (length-sets l p u ∙ w.long);
-          }
+  module _ {numbers rest l₀ l : List ℕ} {at count : ℕ} (w : Laying numbers rest l₀ l at (at + 512 * count)) (part next : List ℕ) where
+    pub unit_turn : 0 < length rest → rest ≡ part ++ next → length part ≡ min unit_records (length rest) → {l' : List ℕ} {here there : ℕ} → here ≡ count → there ≡ count + 1 →
+        l' ≡ sets l (at + 512 * here) (unit kind (map record_of part)) → Laying numbers next l₀ l' at (at + 512 * there)
+    unfolding units_for
+    unit_turn some e n {l'} {here} {there} h t laid_here =
+        let p = at + 512 * count in
+        let g : l' ≡ sets l p (unit kind (map record_of part)) = rw h at laid_here in
+        let u = unit kind (map record_of part) in
+        let k = length-map part record_of in
+        let c : length u ≡ 512 = unit_length kind (map record_of part) (omega arith) in
+        let m = ap length e ∙ length-append part next in
+        let a = w.counted in
+        let q : at + 512 * there ≡ p + length u = omega arith in
+        record {
+          counted = omega arith;
+          same = (λ j. sets (g j) (q j) (units_said next)) ∙ (sets_append l p u (units_said next) ∙ (ap (sets l p) (sym (units_on rest part next some e n)) ∙ w.same));
+          long = ap length g ∙ (length-sets l p u ∙ w.long);
+        }

@@ -1,5 +1,6 @@
 -- Laws of the view of a graph of the calls: its numbers stay within the limits, its counts are those of the graph, and it has the
 -- blocks and the wires of the book.
+use Rattle.std.proofs.lemmas.List.{length-map}
 use Rattle.std.specs.Prelude.{◌≡◌, refl, Bool, List, [], ◌∷◌, ◌++◌, map, ◌↔◌, ℕ, ◌+◌, ◌*◌, ◌≤◌, ◌<◌}
 use Rattle.std.proofs.Math.Path.{sym, ap, subst}
 use Rattle.std.proofs.Common.{◌∙◌, inl, inr}
@@ -8,7 +9,7 @@ use Rattle.std.proofs.Math.Logic.{⊎_elim}
 use native.Mathlib.Omega.{arith}
 use Rattle.std.proofs.Math.ListN.{length, length-append}
 use Rattle.port_tables.specs.Limits.{node_slots, port_slots, node_ports}
-use Rattle.port_tables.specs.Lists.{range, Member, Once, Rising}
+use Rattle.port_tables.specs.Lists.{range, Member, Rising}
 use Rattle.portgraph.specs.Lookups.{num_ports}
 use Rattle.portgraph.specs.Model as model
 use Rattle.portgraph.specs.Model.{Model, Slots, gone, live, slot_of, count_of}
@@ -16,13 +17,13 @@ use Rattle.portgraph.specs.GoodSlots.{slot_in_range, slots_apart}
 use Rattle.port_tables.specs.declared.direction.Direction.{Direction}
 use Rattle.port_tables.specs.declared.direction.Direction.TheVariants.{Incoming, Outgoing}
 use Rattle.port_tables.specs.Places.{Place, Wire, flag}
-use Rattle.multiportgraph.specs.Wires.{Walked, blocks, all_wires, wires_walked, wire_places}
+use Rattle.multiportgraph.specs.Wires.{blocks, all_wires, wires_walked, wire_places}
 use Rattle.multiportgraph.specs.Calls.{visible_nodes, visible_links}
 use Rattle.multiportgraph.specs.WellFormed.{Fine, outer, IsEnd, WireIn}
 use Rattle.multiportgraph.specs.HiddenStays.{true_not_false}
 use Rattle.multiportgraph.specs.Ends.{count_of_lem, outer_seen, ends_join_ends, wires_by_out, wires_by_into, out_not_into}
-use Rattle.port_tables.specs.Listing.{Apart, apart_below, member_map, member_append, length_map, rising_append, rising_map, range_member, partners, length_range, numbers_apart}
-use Rattle.multiportgraph.specs.WalkRule.{walk_is_listing, walked_is_wires, walked_once, blocks_rise, blocks_are_few}
+use Rattle.port_tables.specs.Listing.{Apart, once_apart, member_map, member_append, rising_append, rising_map, range_member, partners, length_range, numbers_apart}
+use Rattle.multiportgraph.specs.WalkRule.{walked_places, walked_is_wires, walked_once, blocks_rise, blocks_are_few}
 use Rattle.multiportgraph.specs.CountLaws.{visible_nodes_lem, visible_links_lem}
 use Rattle.multiportgraph.specs.declared.multiportgraph.MultiPortGraph.{MultiPortGraph}
 use Rattle.theorems.specs.Book.{Block, Book}
@@ -37,12 +38,6 @@ use Rattle.files.specs.LayoutLaws.{file_length_lem}
 use Rattle.files.specs.Claims.{rank_in, At, HasBlock, same_wire, how_many, wires_between, WithinLimits, longest_file}
 use Rattle.files.specs.OrderLaws.{sorted_counts, sorted_member, sorted_length}
 use Rattle.files.specs.RankLaws.{at_member, at_map, map_at, rank_below, rank_at, at_rank, booked_block, rank_booked}
-
--- Wires of the graph, as walked.
-
-pub walked_places : {m : MultiPortGraph} {M : Model} → Fine m M → wires_walked m ≡ map (wire_places m) (all_wires m)
-unfolding wires_walked
-walked_places {m} f = ap (λ (r : Walked). map (wire_places m) r.items) (walk_is_listing f)
 
 -- an end of a wire: its node is a block, and its position one of a port there
 pub record EndFits (m : MultiPortGraph) (x : Place) : Type 0 where
@@ -80,14 +75,11 @@ module _ {m : MultiPortGraph} {M : Model} (f : Fine m M) where
   pub node_in_use : (n : ℕ) → Member n (blocks m) → n < m.graph.node_len
   node_in_use n i = let k = (blocks_list f).only n i in let u = f.good.node_used n k.0 k.1.1 in let v = f.holds.node_len in omega arith
 
-  pub blocks_in_use : length (blocks m) ≤ m.graph.node_len
-  blocks_in_use = apart_below m.graph.node_len (blocks m) (numbers_apart (blocks m) (blocks_rise m)) node_in_use
-
   pub view_within : WithinLimits (view_of m)
   unfolding view_of block_ports
   view_within =
       record {
-        blocks_few = let e = length_map (block_ports m) (blocks m) in let h = blocks_are_few m in omega arith;
+        blocks_few = let e = length-map (blocks m) (block_ports m) in let h = blocks_are_few m in omega arith;
         incoming = λ b i. let g = member_map (block_ports m) b (blocks m) i in subst (λ (x : BlockPorts). x.incoming ≤ node_ports) (sym g.2) (ports_small g.0 Incoming);
         outgoing = λ b i. let g = member_map (block_ports m) b (blocks m) i in subst (λ (x : BlockPorts). x.outgoing ≤ node_ports) (sym g.2) (ports_small g.0 Outgoing);
         source = λ w i. (fits w i).0;
@@ -129,10 +121,6 @@ half t w = record { out = t; wire = w }
 abbrev place_in : Bool → Wire → Place
 place_in true w = w.out
 place_in false w = w.into
-
-once_apart : (l : List Wire) → Once l → Rising Apart l
-once_apart [] o = tt
-once_apart (w ∷ l) o = ((λ v i e. o.0 (subst (λ u. Member u l) (sym e) i)), once_apart l o.1)
 
 module _ {m : MultiPortGraph} {M : Model} (f : Fine m M) where
   -- the slot of a wire's end
@@ -196,24 +184,27 @@ module _ {m : MultiPortGraph} {M : Model} (f : Fine m M) where
   wires_few =
       let a = partners SlotOf one_end halves (range 0 port_slots) halves_apart has_slot in
       let b = length-append (map (half true) (wires_walked m)) (map (half false) (wires_walked m)) in
-      let c = length_map (half true) (wires_walked m) in
-      let d = length_map (half false) (wires_walked m) in
+      let c = length-map (wires_walked m) (half true) in
+      let d = length-map (wires_walked m) (half false) in
       let e = length_range 0 port_slots in
       omega arith
 
 -- The counts of a view are those of the graph.
 
+pub view_walked : (m : MultiPortGraph) → length (view_of m).wires ≡ length (wires_walked m)
+unfolding view_of
+view_walked m = sorted_length (map (rank_wire (rank_among (blocks m))) (wires_walked m)) ∙ length-map (wires_walked m) (rank_wire (rank_among (blocks m)))
+
 module _ {m : MultiPortGraph} {M : Model} (f : Fine m M) where
   pub view_blocks : length (view_of m).blocks ≡ visible_nodes m
   unfolding view_of
-  view_blocks = length_map (block_ports m) (blocks m) ∙ sym (visible_nodes_lem f)
+  view_blocks = length-map (blocks m) (block_ports m) ∙ sym (visible_nodes_lem f)
+
+  pub links_walked : length (wires_walked m) ≡ visible_links m
+  links_walked = ap length (walked_places f) ∙ (length-map (all_wires m) (wire_places m) ∙ sym (visible_links_lem f))
 
   pub view_wires : length (view_of m).wires ≡ visible_links m
-  unfolding view_of
-  view_wires =
-      sorted_length (map (rank_wire (rank_among (blocks m))) (wires_walked m))
-      ∙ (length_map (rank_wire (rank_among (blocks m))) (wires_walked m)
-      ∙ (ap length (walked_places f) ∙ (length_map (wire_places m) (all_wires m) ∙ sym (visible_links_lem f))))
+  view_wires = view_walked m ∙ links_walked
 
 -- The file of a graph.
 
@@ -232,7 +223,7 @@ module _ {m : MultiPortGraph} {M : Model} (f : Fine m M) where
       let a = blocks_are_few m in
       let b = wires_few f in
       let c = visible_nodes_lem f in
-      let d = visible_links_lem f ∙ (sym (length_map (wire_places m) (all_wires m)) ∙ ap length (sym (walked_places f))) in
+      let d = links_walked f in
       omega arith
 
 -- The view and the book.

@@ -1,5 +1,6 @@
 -- The view of a graph of the calls is sound.
-use Rattle.std.specs.Prelude.{◌≡◌, refl, List, ◌∷◌, map, ℕ, zero, suc, ◌<◌, length, get_or}
+use Rattle.std.proofs.lemmas.List.{length-map}
+use Rattle.std.specs.Prelude.{◌≡◌, refl, List, map, ℕ, ◌<◌, length}
 use Rattle.std.proofs.Common.{sym, ◌∙◌}
 use Rattle.std.proofs.Math.Path.{ap, subst}
 use native.Mathlib.Omega.{arith}
@@ -13,7 +14,7 @@ use Rattle.port_tables.specs.Places.{Place, Wire}
 use Rattle.multiportgraph.specs.Wires.{blocks, wires_walked}
 use Rattle.multiportgraph.specs.WellFormed.{Fine, outer, IsEnd, WireIn}
 use Rattle.multiportgraph.specs.Ends.{count_of_lem, outer_seen, ends_join_ends}
-use Rattle.port_tables.specs.Listing.{member_map, length_map}
+use Rattle.port_tables.specs.Listing.{member_map}
 use Rattle.multiportgraph.specs.WalkRule.{walked_is_wires}
 use Rattle.multiportgraph.specs.declared.multiportgraph.MultiPortGraph.{MultiPortGraph}
 use Rattle.port_tables.specs.declared.release.Release.{Release}
@@ -22,16 +23,10 @@ use Rattle.theorems.specs.History.{run}
 use Rattle.theorems.proofs.CallLaws.{rel_run}
 use Rattle.files.specs.View.{BlockPorts, RankWire, rank_among, sorted, block_ports, rank_wire, view_of}
 use Rattle.files.specs.Loading.{block_at}
-use Rattle.files.specs.Claims.{At, Sound}
+use Rattle.files.specs.Claims.{Sound}
 use Rattle.files.specs.OrderLaws.{sorted_rises, sorted_member}
-use Rattle.files.specs.RankLaws.{map_at, rank_below, rank_at}
+use Rattle.files.specs.RankLaws.{at_read, map_at, rank_below, rank_at}
 use Rattle.files.specs.ViewLaws.{walked_fits}
-
--- what stands at a position is read there
-pub at_read : {A : Type 0} (l : List A) (r : ℕ) (x d : A) → At l r x → get_or l r d ≡ x
-at_read {A = A} mathlib.Core.List.[] r x d never = absurd never
-at_read (y ∷ l) zero x d e = sym e
-at_read (y ∷ l) (suc r) x d h = at_read l r x d h
 
 module _ {m : MultiPortGraph} {M : Model} (f : Fine m M) where
   -- the position of an end is that of a port on its side
@@ -72,7 +67,7 @@ module _ {m : MultiPortGraph} {M : Model} (f : Fine m M) where
   wire_kept w i =
       let e = walked_fits f w i in
       let p = wire_ports w ((walked_is_wires f w).0 i) in
-      let l = length_map (block_ports m) (blocks m) in
+      let l = length-map (blocks m) (block_ports m) in
       let a = rank_below (blocks m) w.out.node e.0.block in
       let b = rank_below (blocks m) w.into.node e.1.block in
       let c = ap (λ (x : BlockPorts). x.outgoing) (rank_ports w.out.node e.0.block) in

@@ -4,7 +4,9 @@ use Rattle.std.specs.Prelude.{◌≡◌, refl, Bool, cond, ◌&&◌, eqb, drop}
 use Rattle.std.proofs.Math.Path.{sym, ap, subst}
 use Rattle.std.proofs.Common.{◌∙◌, take_all, take_at, drop_at, drop-drop, take-add, take-take, get_or-drop}
 use Rattle.std.proofs.Math.Bool.{true}
-use Rattle.std.proofs.lemmas.List.{drop-take}
+use Rattle.std.proofs.lemmas.Bool.{and_parts}
+use Rattle.std.proofs.lemmas.List.{drop-take, map-id}
+use Rattle.std.proofs.lemmas.Simd.{map-map}
 use mathlib.Core.List.{List, [], ◌∷◌, ◌++◌, map, flat_map, append-nil}
 use Prim.Native.Nat.{ℕ, zero, suc, ◌+◌, ◌-◌, ◌*◌, ◌/◌, ◌%◌, ◌≤◌, ◌<◌}
 use native.Mathlib.Omega.{arith}
@@ -15,7 +17,7 @@ use Rattle.portgraph.specs.Sums.{total_same}
 use Rattle.files.specs.Layout.{Record, block_record, wire_record, field_bytes, word_bytes, field_at, word_at, record_bytes, unit_records, unit_head, sum_of, unit, units_for, units_from, units_of, bytes_of, block_of, wire_of, record_at, records_at, records_of, unbytes}
 use Rattle.files.specs.Loading.{sum_holds, units_in, unit_list, is_whole, count_of, of_kind, zeros_from, block_zeros, zeros_right, units_right, view_right, is_laid}
 use Rattle.files.specs.Claims.{Bytes}
-use Rattle.files.specs.LaidLaws.{both_true, field_taken, records_many, records_in, UnitOf, Units, units_counted, parts, said}
+use Rattle.files.specs.LaidLaws.{field_taken, records_many, records_in, UnitOf, Units, units_counted, parts, said}
 
 -- Parts of a list.
 
@@ -136,7 +138,7 @@ sum_taken n bytes h = ap (λ (k : ℕ). k % 4294967296) (total_same 127 (λ i. w
 zeros_back : (l : List ℕ) → list_all (eqb 0) l ≡ true → l ≡ replicate (length l) 0
 zeros_back [] e = refl
 zeros_back (x ∷ l) e =
-    let h = both_true (eqb 0 x) (list_all (eqb 0) l) e in
+    let h = and_parts (eqb 0 x) (list_all (eqb 0) l) e in
     let a = sym (eqb-true 0 x h.0) in
     let r = zeros_back l h.1 in
     λ j. a j ∷ r j
@@ -148,7 +150,7 @@ module _ (kind left : ℕ) (bytes : List ℕ) (u : UnitOf kind left bytes) (b : 
       let c = field_at bytes 2 in
       let f = u.few in
       let e : field_at (take 512 bytes) 2 ≡ c = field_taken 512 2 bytes (omega arith) in
-      let z = (both_true _ _ u.zeros).0 in
+      let z = (and_parts _ _ u.zeros).0 in
       let y : list_all (eqb 0) (take (8 * (unit_records - c)) (drop (4 + 8 * c) (take 512 bytes))) ≡ true =
       subst (λ (n : ℕ). list_all (eqb 0) (take (8 * (unit_records - n)) (drop (4 + 8 * n) (take 512 bytes))) ≡ true) e z in
       let p = part_taken (8 * (unit_records - c)) (4 + 8 * c) 512 bytes (omega arith) in
@@ -188,7 +190,7 @@ units_back : (kind n : ℕ) (bytes : List ℕ) → Units kind n bytes → Bytes 
 unfolding units_from records_in units_in records_of
 units_back kind zero bytes u b h s = refl
 units_back kind (suc n) bytes u b h s =
-    let t = both_true (sum_holds (take 512 bytes)) (list_all sum_holds (units_in n (drop 512 bytes))) s in
+    let t = and_parts (sum_holds (take 512 bytes)) (list_all sum_holds (units_in n (drop 512 bytes))) s in
     let l = length-drop 512 bytes in
     let z : 512 + 512 * n ≡ 512 * suc n = omega arith in
     let e = unit_back kind n bytes u.0 b (omega arith) t.0 in
@@ -222,8 +224,8 @@ blocks_same (suc n) bytes u = each (records_of bytes) (records_in n (drop 512 by
     each : (l m : List Record) → list_all block_zeros l ≡ true → map block_record (map block_of m) ≡ m → map block_record (map block_of (l ++ m)) ≡ l ++ m
     each [] m e r = r
     each (x ∷ l) m e r =
-        let h = both_true (block_zeros x) (list_all block_zeros l) e in
-        let k = both_true (eqb 0 x.c) (eqb 0 x.d) h.0 in
+        let h = and_parts (block_zeros x) (list_all block_zeros l) e in
+        let k = and_parts (eqb 0 x.c) (eqb 0 x.d) h.0 in
         let p = eqb-true 0 x.c k.0 in
         let q = eqb-true 0 x.d k.1 in
         let s = each l m h.1 r in
@@ -231,14 +233,10 @@ blocks_same (suc n) bytes u = each (records_of bytes) (records_in n (drop 512 by
 
     zeros : list_all block_zeros (records_of bytes) ≡ true
     zeros =
-        let z = (both_true (zeros_from (4 + 8 * count_of (take 512 bytes)) (take 512 bytes)) (cond (of_kind 1 (take 512 bytes)) (list_all block_zeros (records_of (take 512 bytes))) true) u.0.zeros).1 in
+        let z = (and_parts (zeros_from (4 + 8 * count_of (take 512 bytes)) (take 512 bytes)) (cond (of_kind 1 (take 512 bytes)) (list_all block_zeros (records_of (take 512 bytes))) true) u.0.zeros).1 in
         let k : of_kind 1 (take 512 bytes) ≡ true = eq-eqb (field_at (take 512 bytes) 0) 1 (field_taken 512 0 bytes (omega arith) ∙ u.0.kind_is) in
         let y : list_all block_zeros (records_of (take 512 bytes)) ≡ true = subst (λ (t : Bool). cond t (list_all block_zeros (records_of (take 512 bytes))) true ≡ true) k z in
         subst (λ (l : List Record). list_all block_zeros l ≡ true) (unit_records_lem bytes u.0.few) y
-
-wires_same : (l : List Record) → map wire_record (map wire_of l) ≡ l
-wires_same [] = refl
-wires_same (r ∷ l) = ap (λ (k : List Record). r ∷ k) (wires_same l)
 
 -- the units of the second kind, after those of the first
 units_after : (p q : ℕ) (f : List ℕ → Bool) (bytes : List ℕ) → list_all f (units_in (p + q) bytes) ≡ true → (list_all f (units_in p bytes) ≡ true) × (list_all f (units_in q (drop (512 * p) bytes)) ≡ true)
@@ -246,7 +244,7 @@ unfolding units_in
 units_after zero q f bytes e = let n : 0 + q ≡ q = omega arith in (refl, subst (λ (k : ℕ). list_all f (units_in k bytes) ≡ true) n e)
 units_after (suc p) q f bytes e =
     let n : suc p + q ≡ suc (p + q) = omega arith in
-    let h = both_true (f (take 512 bytes)) (list_all f (units_in (p + q) (drop 512 bytes))) (subst (λ (k : ℕ). list_all f (units_in k bytes) ≡ true) n e) in
+    let h = and_parts (f (take 512 bytes)) (list_all f (units_in (p + q) (drop 512 bytes))) (subst (λ (k : ℕ). list_all f (units_in k bytes) ≡ true) n e) in
     let r = units_after p q f (drop 512 bytes) h.1 in
     let z : 512 + 512 * p ≡ 512 * suc p = omega arith in
     let d = drop-drop (512 * p) 512 bytes ∙ ap (λ (k : ℕ). drop k bytes) z in
@@ -256,8 +254,8 @@ units_after (suc p) q f bytes e =
 pub laid_written : (b : List ℕ) → Bytes b → is_whole b ≡ true → is_laid b ≡ true → bytes_of (unbytes b) ≡ b
 unfolding is_whole is_laid unit_list bytes_of units_of
 laid_written b bytes w l =
-    let e = (both_true (units_right (units_in (length b / 512) b)) (view_right (unbytes b)) l).0 in
-    let h = both_true (eqb (length b % 512) 0) (list_all sum_holds (units_in (length b / 512) b)) w in
+    let e = (and_parts (units_right (units_in (length b / 512) b)) (view_right (unbytes b)) l).0 in
+    let h = and_parts (eqb (length b % 512) 0) (list_all sum_holds (units_in (length b / 512) b)) w in
     let s = parts b e in
     let p = s.first in
     let q = s.second in
@@ -271,7 +269,7 @@ laid_written b bytes w l =
     let y : units_from 2 (units_for (length (records_in q after))) (records_in q after) ≡ take (512 * q) after =
     ap (λ (n : ℕ). units_from 2 n (records_in q after)) (units_counted 2 q after s.wires) ∙ units_back 2 q after s.wires (bytes_after b (512 * p) bytes) (omega arith) sums.1 in
     let m = blocks_same p b s.blocks in
-    let n = wires_same (records_in q after) in
+    let n = map-map wire_record wire_of (records_in q after) ∙ map-id (records_in q after) in
     let z : length b ≤ 512 * p + 512 * q = omega arith in
     ap bytes_of (said b e)
     ∙ ((λ j. units_from 1 (units_for (length (m j))) (m j) ++ units_from 2 (units_for (length (n j))) (n j))

@@ -56,7 +56,7 @@ fn block_number(block: Fields) -> u64
 
 // The records of the blocks of a file, as numbers, in a list with a place for each.
 // Stays beside `read_wires`: one for both would take what reads a record as a closure, with its contract.
-#[tactic(auto, unfolding(port_tables::specs::Lists::range), using(crate::specs::MergeSteps::numbers_all))]
+#[tactic(auto, using(crate::specs::MergeSteps::numbers_begin, crate::specs::MergeSteps::numbers_all))]
 fn read_blocks(file: File, numbers: &mut [u64])
     requires { length numbers.old ≡ file.shape.blocks }
     ensures { numbers.new ≡ map (block_read file.entry.bytes.now) (range 0 file.entry.shape.blocks) }
@@ -80,7 +80,7 @@ fn raised_number(wire: Fields, raise: u16) -> u64
 }
 
 // The records of the wires of a file, their ranks raised, as numbers, in a list with a place for each.
-#[tactic(auto, unfolding(port_tables::specs::Lists::range))]
+#[tactic(auto, using(crate::specs::MergeSteps::numbers_begin, crate::specs::MergeSteps::numbers_all))]
 fn read_wires(file: File, raise: u16, numbers: &mut [u64])
     requires { RaisedFit file.bytes.now (units_for file.shape.blocks) file.shape.wires raise × (length numbers.old ≡ file.shape.wires) }
     ensures { numbers.new ≡ map (wire_read file.entry.bytes.now (units_for file.entry.shape.blocks) raise) (range 0 file.entry.shape.wires) }

@@ -13,7 +13,7 @@ use Rattle.theorems.specs.History.{State, run_under}
 use Rattle.files.specs.View.{BlockPorts, View}
 use Rattle.files.specs.Layout.{Record, block_record, bytes_of, unbytes, FieldsFit, ViewFits}
 use Rattle.files.specs.Loading.{first_port, add_of, build_of, first_refusal, graph_if, load_answer, load_answer_under, load_graph, load_graph_under}
-use Rattle.files.specs.Claims.{Sound}
+use Rattle.files.specs.MergeLaws.{unwired_sound}
 use Rattle.files.specs.LayoutLaws.{view_read_back}
 use Rattle.files.specs.LaidAgain.{written_laid}
 use Rattle.files.specs.NextSlots.{adds_laid, none_free_at_first}
@@ -50,9 +50,6 @@ fields_fit = (fits, λ r i. absurd i)
     fits r (inr (inr (inr never))) = absurd never
     fits r (inr (inr (inl e))) = subst FieldsFit (sym e) (of _ (omega arith) (omega arith) (omega arith) (omega arith))
 
-sound : Sound case_j
-sound = record { rise = tt; source = λ w i. absurd i; output = λ w i. absurd i; target = λ w i. absurd i; input = λ w i. absurd i }
-
 blocks_fit : BlocksFit blocks_j
 unfolding first_port
 blocks_fit = record { few = few; nodes = omega arith; ports = omega arith }
@@ -69,7 +66,7 @@ added release = fitting_added release blocks_j blocks_fit
 loads : (release : Release) → load_answer release (bytes_of case_j) ≡ Ok tt
 unfolding load_answer_under build_of
 loads release =
-    let w = written_laid case_j fields_fit sound in
+    let w = written_laid case_j fields_fit (unwired_sound blocks_j) in
     rw (w.0, w.1, view_read_back case_j fields_fit) (added release)
 
 past : (release : Release) → Past former (load_graph release (bytes_of case_j)).graph

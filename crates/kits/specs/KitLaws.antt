@@ -2,7 +2,7 @@
 use Rattle.std.proofs.Math.Path.{◌≡◌, refl, ap}
 use Rattle.std.proofs.Common.{sym, ◌∙◌, subst, inr, arith}
 use Rattle.std.specs.Prelude.{Bool, true, false, cond, ◌⊎◌, ◌↔◌, ℕ, ◌≤◌, Result, Ok, Err, Some, None}
-use mathlib.Core.List.{List, [], ◌∷◌, ◌++◌, map}
+use mathlib.Core.List.{List, [], ◌∷◌, ◌++◌, map, head-eq_of_cons-eq, tail-eq_of_cons-eq}
 use Rattle.std.proofs.Math.Logic.{inl}
 use Rattle.std.proofs.lemmas.Bool.{false_from_ne_true}
 use Rattle.port_tables.specs.Limits.{Limits, present}
@@ -40,56 +40,42 @@ use Rattle.kits.specs.StepLaws.{ten_of, StepExact, step_alike, step_longer, step
 
 -- The number 10.
 
-head_same : {A : Type 0} {x y : A} {l k : List A} → ◌≡◌ {A = List A} (x ∷ l) (y ∷ k) → x ≡ y
-head_same {A} {x} {y} {l} {k} e = ap (head_or x) e
-  where
-    head_or : A → List A → A
-    head_or d [] = d
-    head_or d (z ∷ m) = z
-
-tail_same : {A : Type 0} {x y : A} {l k : List A} → ◌≡◌ {A = List A} (x ∷ l) (y ∷ k) → l ≡ k
-tail_same {A} e = ap rest e
-  where
-    rest : List A → List A
-    rest [] = []
-    rest (z ∷ m) = m
-
 refusal_known : (r : Refusal) → refusal_numbers r ≡ 10 ∷ [] → r ≡ NoRoom
-refusal_known BadOffset e = let h = head_same e in absurd (omega arith)
-refusal_known TooManyPorts e = let h = head_same e in absurd (omega arith)
-refusal_known UnknownNode e = let h = head_same e in absurd (omega arith)
-refusal_known HiddenNode e = let h = head_same e in absurd (omega arith)
-refusal_known MovesTooShort e = let h = head_same e in absurd (omega arith)
-refusal_known (UnknownPort p) e = let h = head_same e in absurd (omega arith)
-refusal_known (HiddenPort p) e = let h = head_same e in absurd (omega arith)
-refusal_known (UnknownOffset p) e = let h = head_same e in absurd (omega arith)
+refusal_known BadOffset e = let h = head-eq_of_cons-eq e in absurd (omega arith)
+refusal_known TooManyPorts e = let h = head-eq_of_cons-eq e in absurd (omega arith)
+refusal_known UnknownNode e = let h = head-eq_of_cons-eq e in absurd (omega arith)
+refusal_known HiddenNode e = let h = head-eq_of_cons-eq e in absurd (omega arith)
+refusal_known MovesTooShort e = let h = head-eq_of_cons-eq e in absurd (omega arith)
+refusal_known (UnknownPort p) e = let h = head-eq_of_cons-eq e in absurd (omega arith)
+refusal_known (HiddenPort p) e = let h = head-eq_of_cons-eq e in absurd (omega arith)
+refusal_known (UnknownOffset p) e = let h = head-eq_of_cons-eq e in absurd (omega arith)
 refusal_known NoRoom e = refl
-refusal_known (UnknownSecondPort p) e = let h = head_same e in absurd (omega arith)
-refusal_known (IncompatibleDirections p q d) e = let h = head_same e in absurd (omega arith)
-refusal_known (AlreadyLinked p) e = let h = head_same e in absurd (omega arith)
-refusal_known InputWired e = let h = head_same e in absurd (omega arith)
+refusal_known (UnknownSecondPort p) e = let h = head-eq_of_cons-eq e in absurd (omega arith)
+refusal_known (IncompatibleDirections p q d) e = let h = head-eq_of_cons-eq e in absurd (omega arith)
+refusal_known (AlreadyLinked p) e = let h = head-eq_of_cons-eq e in absurd (omega arith)
+refusal_known InputWired e = let h = head-eq_of_cons-eq e in absurd (omega arith)
 
 -- an answer with the number 10 is that refusal
 ten_known : (c : Call) (v : AnswerOf c) → numbers_of c v ≡ 10 ∷ [] → v ≡ ten_of c
-ten_known (book.add_call i o) (Ok (n, p)) e = let h = head_same e in absurd (omega arith)
+ten_known (book.add_call i o) (Ok (n, p)) e = let h = head-eq_of_cons-eq e in absurd (omega arith)
 ten_known (book.add_call i o) (Err r) e = ap Err (refusal_known r e)
-ten_known (book.remove_call n) (Ok tt) e = let h = head_same e in absurd (omega arith)
+ten_known (book.remove_call n) (Ok tt) e = let h = head-eq_of_cons-eq e in absurd (omega arith)
 ten_known (book.remove_call n) (Err r) e = ap Err (refusal_known r e)
-ten_known (book.set_call n i o room) (Ok x) e = let h = head_same e in absurd (omega arith)
+ten_known (book.set_call n i o room) (Ok x) e = let h = head-eq_of_cons-eq e in absurd (omega arith)
 ten_known (book.set_call n i o room) (Err r) e = ap Err (refusal_known r e)
-ten_known (book.link_call a b) (Ok (s, t)) e = let h = head_same e in absurd (omega arith)
+ten_known (book.link_call a b) (Ok (s, t)) e = let h = head-eq_of_cons-eq e in absurd (omega arith)
 ten_known (book.link_call a b) (Err r) e = ap Err (refusal_known r e)
-ten_known (book.link_clean_call a b) (Ok (s, t)) e = let h = head_same e in absurd (omega arith)
+ten_known (book.link_clean_call a b) (Ok (s, t)) e = let h = head-eq_of_cons-eq e in absurd (omega arith)
 ten_known (book.link_clean_call a b) (Err r) e = ap Err (refusal_known r e)
-ten_known (book.link_sub_call p o q u) (Ok (s, t)) e = let h = head_same e in absurd (omega arith)
+ten_known (book.link_sub_call p o q u) (Ok (s, t)) e = let h = head-eq_of_cons-eq e in absurd (omega arith)
 ten_known (book.link_sub_call p o q u) (Err r) e = ap Err (refusal_known r e)
-ten_known (book.cut_call p) (Ok (Some (s, x))) e = let h = head_same e in absurd (omega arith)
-ten_known (book.cut_call p) (Ok None) e = let h = head_same e in absurd (omega arith)
+ten_known (book.cut_call p) (Ok (Some (s, x))) e = let h = head-eq_of_cons-eq e in absurd (omega arith)
+ten_known (book.cut_call p) (Ok None) e = let h = head-eq_of_cons-eq e in absurd (omega arith)
 ten_known (book.cut_call p) (Err r) e = ap Err (refusal_known r e)
-ten_known (book.cut_sub_call p o) (Ok (Some (s, x))) e = let h = head_same e in absurd (omega arith)
-ten_known (book.cut_sub_call p o) (Ok None) e = let h = head_same e in absurd (omega arith)
+ten_known (book.cut_sub_call p o) (Ok (Some (s, x))) e = let h = head-eq_of_cons-eq e in absurd (omega arith)
+ten_known (book.cut_sub_call p o) (Ok None) e = let h = head-eq_of_cons-eq e in absurd (omega arith)
 ten_known (book.cut_sub_call p o) (Err r) e = ap Err (refusal_known r e)
-ten_known (book.tidy_call p) (Ok tt) e = let h = head_same e in absurd (omega arith)
+ten_known (book.tidy_call p) (Ok tt) e = let h = head-eq_of_cons-eq e in absurd (omega arith)
 ten_known (book.tidy_call p) (Err r) e = ap Err (refusal_known r e)
 
 ten_numbers : (c : Call) → numbers_of c (ten_of c) ≡ 10 ∷ []
@@ -121,9 +107,9 @@ module _ {L K : Limits} (low : Lower L K) where
           ◌≡◌ {A = List (List ℕ)} (numbers_of c v.answer ∷ answers_from L v.graph l) (numbers_of c w.answer ∷ answers_from K w.graph l) →
           run_from_under L (after s c v) l ≡ run_from_under K (after s c w) l
       go rest v w (inl q) x =
-          rest (after s c v) (tail_same x ∙ ap (λ (u : Stepped c). answers_from K u.graph l) (sym q)) ∙ ap (λ (u : Stepped c). run_from_under K (after s c u) l) q
+          rest (after s c v) (tail-eq_of_cons-eq x ∙ ap (λ (u : Stepped c). answers_from K u.graph l) (sym q)) ∙ ap (λ (u : Stepped c). run_from_under K (after s c u) l) q
       go rest v w (inr q) x =
-          absurd (q.1 (ten_known c w.answer (sym (head_same x) ∙ ap (λ (u : Stepped c). numbers_of c u.answer) q.0 ∙ ten_numbers c)))
+          absurd (q.1 (ten_known c w.answer (sym (head-eq_of_cons-eq x) ∙ ap (λ (u : Stepped c). numbers_of c u.answer) q.0 ∙ ten_numbers c)))
 
   pub same_answers_same_state : (release : Release) (calls : List Call) → answers_under L release calls ≡ answers_under K release calls → run_under L release calls ≡ run_under K release calls
   unfolding answers_under run_under

@@ -7,10 +7,10 @@ use Rattle.std.specs.Prelude.{Result, Ok, Err}
 use Rattle.std.specs.Result.{OkIff, result_unwrap_or}
 use Rattle.std.proofs.Math.Logic.{⊎_elim}
 use Rattle.std.proofs.Math.ListN.{get_or, length}
+use Rattle.std.proofs.Math.Nat.{eq-or-lt_of_le}
 use Rattle.std.proofs.lemmas.List.{get_or_past}
 use Rattle.lines.specs.Orders.{order, start_of, with_number, number_at, offset_at, most_numbers, Asks, word_at, is_empty, file_name, Says, Numbered}
 use Rattle.lines.specs.Text.{bytes_of, next_word, number_said, same_bytes}
-use Rattle.lines.specs.TextSteps.{below_or}
 use Rattle.lines.specs.declared.text.Span.{Span}
 use Rattle.lines.specs.declared.orders.Order.{Order}
 
@@ -137,8 +137,8 @@ module _ {C : Type 0} (command : C) (text : List ℕ) (from : ℕ) (usage : List
       long = ap (λ (x : Order C). length x.numbers) e ∙ more_long o.numbers place value ∙ r.long;
       is_word = word_next text from place word word' r.is_word w;
       is_name = word_next usage (next_word usage 0).to place name name' r.is_name n;
-      there = λ k l. ⊎_elim (λ m. r.there k m) (λ m. rw m (ap is_empty (sym r.is_word) ∙ sym p ∙ f)) (below_or k place l);
-      says = λ k l m. ⊎_elim (λ j. subst (Says (bytes_of text (word_at text from k)) (bytes_of usage (word_at usage (next_word usage 0).to k))) (sym (number k ∙ more_other o.numbers place value k j)) (r.says k j m)) (here k m) (below_or k place l);
+      there = λ k l. ⊎_elim (λ m. rw m (ap is_empty (sym r.is_word) ∙ sym p ∙ f)) (λ m. r.there k m) (eq-or-lt_of_le {n = k} {m = place} (omega arith));
+      says = λ k l m. ⊎_elim (here k m) (λ j. subst (Says (bytes_of text (word_at text from k)) (bytes_of usage (word_at usage (next_word usage 0).to k))) (sym (number k ∙ more_other o.numbers place value k j)) (r.says k j m)) (eq-or-lt_of_le {n = k} {m = place} (omega arith));
     }
       where
         number : (k : ℕ) → get_or o'.numbers k 0 ≡ get_or (more o.numbers place value) k 0

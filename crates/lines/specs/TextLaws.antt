@@ -1,4 +1,4 @@
--- What the words about texts mean.
+-- What the words about texts mean. The two public laws are statements: nothing rests on them.
 use Rattle.std.specs.Prelude.{◌≡◌, refl, Bool, true, false, ◌&&◌, List, [], ◌∷◌, ◌↔◌, ℕ, zero, suc, ◌+◌, ◌-◌, ◌≤◌, eqb, get_or, length, take, drop}
 use Rattle.std.proofs.Common.{ap, arith, drop-cons, eqb-true, eq-eqb}
 use Rattle.lines.specs.Text.{bytes_from, bytes_of, same_bytes}

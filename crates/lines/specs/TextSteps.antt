@@ -1,29 +1,20 @@
 -- What the proofs of functions over texts cite.
-use Rattle.std.specs.Prelude.{◌≡◌, Bool, not, ◌&&◌, List, [], ◌∷◌, ◌⊎◌, MatchBool, ℕ, suc, ◌+◌, ◌-◌, ◌*◌, ◌≤◌, ◌<◌, ltb, get_or, take, drop}
+use Rattle.std.specs.Prelude.{◌≡◌, Bool, not, ◌&&◌, List, [], ◌∷◌, ◌⊎◌, ℕ, suc, ◌+◌, ◌-◌, ◌*◌, ◌≤◌, ◌<◌, ltb, get_or, take, drop}
 use Rattle.std.proofs.Math.Path.{refl, sym}
-use Rattle.std.proofs.Common.{ap, ◌∙◌, inl, inr, add-one, drop_of_length-le}
+use Rattle.std.proofs.Common.{ap, ◌∙◌, add-one, drop_of_length-le}
 use Rattle.std.proofs.Math.Bool.{true, false, cond}
 use Rattle.std.specs.Bool.{beq}
 use native.Mathlib.Omega.{arith}
 use Rattle.std.proofs.Math.Dec.{eqb, leb}
 use Rattle.std.proofs.Math.ListN.{length}
 use borrow.Author.Tests.{eq-eqb, ne_eqb, lt-ltb, le-ltb, le-leb, lt-leb, ltb-true, ltb-false}
-use Rattle.lines.specs.Text.{is_blank, bytes_from, part_of, without_return, line_of, leading, same_bytes, is_digit, with_digit, all_digits, decimal_after, number_said, no_value}
+use Rattle.lines.specs.Text.{is_blank, bytes_from, bytes_of, part_of, without_return, line_of, leading, same_bytes, is_digit, with_digit, all_digits, decimal_after, number_said, no_value}
 use Rattle.std.specs.Prelude.{zero, None, Some, unwrap_or}
-use Rattle.std.specs.List.{position, position_or_len}
-use Rattle.std.proofs.lemmas.List.{take_all, length-drop}
+use Rattle.std.specs.List.{position, position_or_len, list_all, range_with_len}
 use Rattle.std.proofs.lemmas.List.Sums.{prefix_len-le-length}
 use Rattle.std.proofs.Math.Seq.{take-length}
 use Rattle.std.proofs.Math.Logic.{⊎_elim}
 use Rattle.lines.specs.declared.text.Span.{Span}
-
--- A place up to another is before it, or is it.
-pub below_or : (k n : ℕ) → k < n + 1 → (k < n) ⊎ (k ≡ n)
-below_or k n h = go (ltb k n) refl
-  where
-    go : (t : Bool) → ltb k n ≡ t → (k < n) ⊎ (k ≡ n)
-    go true e = inl (ltb-true k n e)
-    go false e = inr (let l = ltb-false k n e in omega arith)
 
 -- The bytes of a part, one after the other.
 
@@ -111,10 +102,7 @@ module _ (blanks : Bool) (l : List ℕ) where
   pub leading_short : leading blanks l ≤ length l
   leading_short = let q = leading_is blanks l in let k = prefix_len-le-length (λ (b : ℕ). not (not (beq (is_blank b) blanks))) l in omega arith
 
--- what is left of a text, and that nothing is left
-pub rest_all : (text : List ℕ) (from : ℕ) → take (length text - from) (drop from text) ≡ drop from text
-rest_all text from = take_all (length text - from) (drop from text) (let l = length-drop from text in omega arith)
-
+-- nothing is left beyond a text
 pub none_leading : (text : List ℕ) (from : ℕ) (blanks : Bool) → length text < from → leading blanks (drop from text) ≡ 0
 unfolding leading
 none_leading text from blanks h = rw (drop_of_length-le text {i = from} (omega arith))
@@ -138,36 +126,20 @@ same_long (b ∷ l) (c ∷ m) h = rw (← same_long l m (λ e. h (ap suc e))) (g
     go false = refl
 
 module _ (text other : List ℕ) where
-  same_passed : (n at place : ℕ) → ((k : ℕ) → k < n → get_or text (at + k) 0 ≡ get_or other (place + k) 0) → true ≡ same_bytes (bytes_from text at n) (bytes_from other place n)
+  same_listed : (n at place k : ℕ) → list_all (λ i. eqb (get_or text (at + i) 0) (get_or other (place + i) 0)) (range_with_len k n) ≡ same_bytes (bytes_from text (at + k) n) (bytes_from other (place + k) n)
   unfolding bytes_from same_bytes
-  same_passed zero at place h = refl
-  same_passed (suc n) at place h =
-      let e : get_or text at 0 ≡ get_or other place 0 = let p : at + 0 ≡ at = omega arith in let q : place + 0 ≡ place = omega arith in rw (p, q) at (h 0 (omega arith)) in
-      rw (eq-eqb (get_or text at 0) (get_or other place 0) e)
-      (same_passed n (suc at) (suc place) (λ k l. let p : at + suc k ≡ suc at + k = omega arith in let q : place + suc k ≡ suc place + k = omega arith in rw (p, q) at (h (suc k) (omega arith))))
+  same_listed zero at place k = refl
+  same_listed (suc n) at place k =
+      let p : at + (k + 1) ≡ suc (at + k) = omega arith in
+      let q : place + (k + 1) ≡ suc (place + k) = omega arith in
+      ap (λ b. eqb (get_or text (at + k) 0) (get_or other (place + k) 0) && b) (rw (p, q) at (same_listed n at place (k + 1)))
 
-  same_stopped : (n at place k : ℕ) → k < n → (get_or text (at + k) 0 ≡ get_or other (place + k) 0 → ⊥) → false ≡ same_bytes (bytes_from text at n) (bytes_from other place n)
-  unfolding bytes_from same_bytes
-  same_stopped zero at place k l h = absurd (omega arith)
-  same_stopped (suc n) at place zero l h =
-      let p : at + 0 ≡ at = omega arith in
-      let q : place + 0 ≡ place = omega arith in
-      rw (ne_eqb (get_or text at 0) (get_or other place 0) (rw (p, q) at h)) refl
-  same_stopped (suc n) at place (suc k) l h =
-      let p : at + suc k ≡ suc at + k = omega arith in
-      let q : place + suc k ≡ suc place + k = omega arith in
-      rw (← same_stopped n (suc at) (suc place) k (omega arith) (rw (p, q) at h)) (go (eqb (get_or text at 0) (get_or other place 0)))
-    where
-      go : (b : Bool) → false ≡ (b && false)
-      go true = refl
-      go false = refl
-
-  -- what `all` says of so many places
-  pub same_all : (places : List ℕ) (n at place : ℕ) {a b : ℕ} (r : Bool) → length places ≡ n → ((i : ℕ) → i < n → get_or places i 0 ≡ i) → n ≡ a → n ≡ b
-      → MatchBool r ((k d : ℕ) → 0 ≤ k → k < length places → get_or text (at + get_or places k d) 0 ≡ get_or other (place + get_or places k d) 0) ((k : ℕ) × (k < length places) × ((d : ℕ) → get_or text (at + get_or places k d) 0 ≡ get_or other (place + get_or places k d) 0 → ⊥))
-      → r ≡ same_bytes (bytes_from text at a) (bytes_from other place b)
-  same_all places n at place true m e p q h = rw (sym p, sym q) (same_passed n at place (λ k l. rw (e k l) at (h k 0 (omega arith) (omega arith))))
-  same_all places n at place false m e p q (k, l, h) = let i : k < n = omega arith in rw (sym p, sym q) (same_stopped n at place k i (rw (e k i) at (h 0)))
+  -- words of one length are the same if they are at each of so many places
+  pub same_all : (word name : Span) {n : ℕ} → n ≡ word.to - word.from → n ≡ name.to - name.from → list_all (λ i. eqb (get_or text (word.from + i) 0) (get_or other (name.from + i) 0)) (range_with_len 0 n) ≡ same_bytes (bytes_of text word) (bytes_of other name)
+  same_all word name {n} e f =
+      let p : word.from + 0 ≡ word.from = omega arith in
+      let q : name.from + 0 ≡ name.from = omega arith in
+      rw (← e, ← f) (rw (p, q) at (same_listed n word.from name.from 0))
 
 pub same_unlong : (text other : List ℕ) (at n place m : ℕ) → (n ≡ m → ⊥) → same_bytes (bytes_from text at n) (bytes_from other place m) ≡ false
 same_unlong text other at n place m h = sym (same_long (bytes_from text at n) (bytes_from other place m) (λ e. h (sym (bytes_long text at n) ∙ e ∙ bytes_long other place m)))
@@ -182,7 +154,7 @@ unfoldable pub said_after : ℕ → List ℕ → ℕ
 said_after v [] = v
 said_after v (b ∷ l) = said_after (with_digit v b) l
 
-pub said_none : (l : List ℕ) → said_after no_value l ≡ no_value
+said_none : (l : List ℕ) → said_after no_value l ≡ no_value
 unfolding said_after with_digit
 said_none [] = refl
 said_none (b ∷ l) = said_none l
@@ -212,6 +184,10 @@ module _ (text : List ℕ) (value at to : ℕ) where
   pub said_next : at < to → said_after (with_digit value (get_or text at 0)) (bytes_from text (at + 1) (to - (at + 1))) ≡ said_after value (bytes_from text at (to - at))
   unfolding said_after
   said_next h = rw (bytes_next text at to h) refl
+
+  -- a byte after which there is no number
+  pub said_stops : at < to → with_digit value (get_or text at 0) ≡ no_value → said_after value (bytes_from text at (to - at)) ≡ no_value
+  said_stops h e = sym (said_next h) ∙ ap (λ (v : ℕ). said_after v (bytes_from text (at + 1) (to - (at + 1)))) e ∙ said_none (bytes_from text (at + 1) (to - (at + 1)))
 
   pub said_end : to ≤ at → value ≡ said_after value (bytes_from text at (to - at))
   unfolding said_after

@@ -68,7 +68,7 @@ fn first_other(text: &[u8], blanks: bool) -> Option<usize>
 }
 
 // The end of the blanks from a place on, or of what is no blank.
-#[tactic(auto, unfolding(crate::specs::Text::pass_over), using(crate::specs::TextSteps::leading_read, crate::specs::TextSteps::leading_short, crate::specs::TextSteps::rest_all, crate::specs::TextSteps::none_leading))]
+#[tactic(auto, unfolding(crate::specs::Text::pass_over), using(crate::specs::TextSteps::leading_read, crate::specs::TextSteps::leading_short, std::proofs::lemmas::List::take_rest, crate::specs::TextSteps::none_leading))]
 fn pass_over(text: &[u8], from: usize, blanks: bool) -> usize
     ensures { result ≡ pass_over text.now from blanks }
 {
@@ -133,7 +133,7 @@ fn with_digit(value: u32, byte: u8) -> Option<u32>
 }
 
 // The number that a word says in decimal digits. Stays a loop: `parse` takes a sign, and no empty word.
-#[tactic(auto, using(crate::specs::TextSteps::said_number, crate::specs::TextSteps::said_next, crate::specs::TextSteps::said_end))]
+#[tactic(auto, using(crate::specs::TextSteps::said_number, crate::specs::TextSteps::said_next, crate::specs::TextSteps::said_end, crate::specs::TextSteps::said_stops))]
 pub fn number_of(text: &[u8], word: Span) -> Option<u32>
     ensures { value_or_none result ≡ number_said (bytes_of text.now word) }
 {

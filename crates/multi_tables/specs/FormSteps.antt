@@ -8,7 +8,7 @@ use Rattle.std.proofs.lemmas.List.Sums.{prefix_len-le-length}
 use Rattle.std.proofs.Math.Seq.{drop-cons}
 use Rattle.std.proofs.Math.ListN.{take}
 use Rattle.std.specs.Prelude.{◌≡◌, refl, true, false, Bool, cond, List, ℕ, ◌<◌, ◌≤◌, zero, suc, ◌+◌, get_or, set, length, ltb, Some, None}
-use Rattle.std.proofs.Common.{ap, ◌∙◌, sym, arith, lt-ltb, ltb-false}
+use Rattle.std.proofs.Common.{ap, ◌∙◌, sym, arith, ltb-false}
 use Rattle.multi_tables.specs.Forms.{flag_at, put_flag, lowest_unlinked}
 use Rattle.port_tables.specs.Tables.{fill}
 use Rattle.port_tables.specs.TableSteps.{fill_none, fill_more}
@@ -19,10 +19,6 @@ use Rattle.std.proofs.lemmas.Slice.{put_mid-paste}
 use borrow.Rule.Slice.PartMut.{mid_of, put_mid}
 
 -- Flags in a table of a size.
-
-pub flag_inside : (t : List Bool) (size i : ℕ) → i < size → get_or t i false ≡ flag_at t size i
-unfolding flag_at
-flag_inside t size i h = rw (lt-ltb i size h)
 
 -- a table of that size reads and stores as a list does
 flag_by : (t : List Bool) (size i : ℕ) (q : Bool) → ltb i size ≡ q → (size ≤ i → get_or t i false ≡ false) → (q ≡ false → size ≤ i) → cond q (get_or t i false) false ≡ get_or t i false

@@ -18,20 +18,20 @@ pub ok_told : {A E : Type 0} {o : Option A} (r : Result A E) (x : A) → o ≡ r
 ok_told (Ok y) x e f = cc
 ok_told (Err z) x e f = cc
 
+-- the same of a result that is told of by its contract
+pub read_ok : {A E : Type 0} {b y : Result A E} {o : Option A} {x : A} → b ≡ y → o ≡ result_ok b → o ≡ Some x → y ≡ Ok x
+read_ok {b = b} {x = x} e k s = sym e ∙ ok_told b x k s
+
 pub err_told : {A E : Type 0} {o : Option A} (r : Result A E) → o ≡ result_ok r → o ≡ None → (z : E) × (r ≡ Err z)
 err_told (Ok y) e f = cc
 err_told (Err z) e f = (z, refl)
 
-pub not_ok : {A E : Type 0} {o : Option A} (r : Result A E) → o ≡ result_ok r → o ≡ None → (x : A) → r ≡ Ok x → ⊥
-not_ok (Ok y) e f x q = cc
-not_ok (Err z) e f x q = cc
-
 -- The block that has a port. What is refused is refused alike by all that refuse 7 and 8.
-refused_as : (p : ℕ) {A : Type 0} (f : Port → Result A Refusal) (s : Port) (r : Refusal) → f dead ≡ Err (UnknownPort (port# p)) → f hidden ≡ Err (HiddenPort (port# p))
-    → block_or p s ≡ Err r → Err r ≡ f s
-refused_as p f dead r g h e = let k : UnknownPort (port# p) ≡ r = cc in ap Err (sym k) ∙ sym g
-refused_as p f hidden r g h e = let k : HiddenPort (port# p) ≡ r = cc in ap Err (sym k) ∙ sym h
-refused_as p f (visible n d) r g h e = let z : ◌≡◌ {A = ℕ} 0 1 = cc in absurd (omega arith)
+pub refused_as : (p : ℕ) {A : Type 0} (v : Refusal → A) (f : Port → A) (s : Port) (r : Refusal) → f dead ≡ v (UnknownPort (port# p)) → f hidden ≡ v (HiddenPort (port# p))
+    → block_or p s ≡ Err r → v r ≡ f s
+refused_as p v f dead r g h e = let k : UnknownPort (port# p) ≡ r = cc in ap v (sym k) ∙ sym g
+refused_as p v f hidden r g h e = let k : HiddenPort (port# p) ≡ r = cc in ap v (sym k) ∙ sym h
+refused_as p v f (visible n d) r g h e = let z : ◌≡◌ {A = ℕ} 0 1 = cc in absurd (omega arith)
 
 found_as : (p : ℕ) (s : Port) (n : NodeIndex) (d : Direction) → block_or p s ≡ Ok (n, d) → s ≡ visible n.0 d
 found_as p dead n d e = let z : ◌≡◌ {A = ℕ} 0 1 = cc in absurd (omega arith)
@@ -51,7 +51,7 @@ module _ (owners : List ℕ) (flags : List Bool) (p : ℕ) where
   pub block_refused : {A : Type 0} (f : Port → Result A Refusal) (r : Refusal) → f dead ≡ Err (UnknownPort (port# p)) → f hidden ≡ Err (HiddenPort (port# p))
       → block_port owners flags p ≡ Err r → Err r ≡ f (seen_in owners flags p)
   unfolding block_port
-  block_refused f r g h e = refused_as p f (seen_in owners flags p) r g h e
+  block_refused f r g h e = refused_as p Err f (seen_in owners flags p) r g h e
 
   -- what a dead and a hidden port give alike, a port that is refused gives
   pub block_unseen : {A : Type 0} (f : Port → A) (z : A) (r : Refusal) → f dead ≡ z → f hidden ≡ z → block_port owners flags p ≡ Err r

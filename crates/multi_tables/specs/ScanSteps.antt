@@ -1,4 +1,5 @@
 -- Steps of the scans over lent tables, over plain values.
+use Rattle.port_tables.specs.Listing.{filter_all}
 use Rattle.std.specs.Prelude.{◌≡◌, Bool, get_or, leb, Option, Some, None, Result, Ok}
 use Rattle.std.proofs.Math.Path.{refl, ap, sym}
 use Rattle.std.proofs.Common.{◌∙◌, eq-eqb}
@@ -17,6 +18,10 @@ use Rattle.port_tables.specs.declared.direction.Direction.TheVariants.{Outgoing}
 use Rattle.multi_tables.specs.Forms.{flag_at, wire_to, subport#, Port, visible}
 use Rattle.multi_tables.specs.TableReads.{seen_in, place_in, wire_in, wire_end_in}
 use Rattle.multi_tables.specs.TableReadSteps.{placed, wire_placed}
+use Rattle.multi_tables.specs.NamedEnds.{block_port}
+use Rattle.multi_tables.specs.NamedEndSteps.{err_told, read_ok, block_unseen, block_found}
+use Rattle.port_tables.specs.declared.index.NodeIndex.{NodeIndex}
+use Rattle.std.specs.Result.{result_ok}
 use Rattle.port_tables.specs.Entries.{fresh_slot, meta_of_entry, ports_from, ports_to}
 use Rattle.port_tables.specs.TableSteps.{at_outside, left_one}
 use Rattle.multi_tables.specs.declared.answers.SubportIndex.{SubportIndex}
@@ -42,8 +47,7 @@ first_later [] b e = refl
 first_later (x ∷ a) b e = let z : ◌≡◌ {A = ℕ} 0 1 = cc in absurd (omega arith)
 
 pub filter_every : (l : List SubportLink) → filter (λ w. true) l ≡ l
-filter_every [] = refl
-filter_every (w ∷ l) = ap (λ r. w ∷ r) (filter_every l)
+filter_every l = filter_all (λ w. true) l (λ w i. refl)
 
 module _ (t : SubportLink → Bool) where
   first_filter_here : (a b : List SubportLink) (w : SubportLink) → first_found (filter t a) ≡ Some w → first_found (filter t (a ++ b)) ≡ Some w
@@ -74,7 +78,7 @@ module _ (links owners : List ℕ) (flags : List Bool) (t : SubportLink → Bool
   unfolding first_found
   end_nothing e h = end_by None e h
 
-  module _ {x : Option SubportIndex} (to : SubportIndex) (e : Ok x ≡ wire_end_in links owners flags s) (h : x ≡ Some to) where
+  module _ {x : Option SubportIndex} {to : SubportIndex} (e : Ok x ≡ wire_end_in links owners flags s) (h : x ≡ Some to) where
     abbrev given : PortPlace → SubportLink
     given place = record { from = q; to = to; place = place }
 
@@ -115,16 +119,22 @@ module _ (marks : List Bool) (links owners : List ℕ) (flags : List Bool) where
     unfolding port_links_in
     port_links_at s e = ap (λ x. first_found (filter t (port_links_by marks links owners flags p o x))) (sym e)
 
-    pub port_links_none : port_links_by marks links owners flags p o (seen_in owners flags p) ≡ [] → None ≡ first_found (filter t (port_links_in marks links owners flags p o))
-    unfolding first_found
-    port_links_none h = ap (λ l. first_found (filter t l)) (sym h) ∙ port_links_at (seen_in owners flags p) refl
+    -- what block_port answers, and `ok` of it
+    module _ {b : Result (NodeIndex × Direction) Refusal} {k : Option (NodeIndex × Direction)} (e : b ≡ block_port owners flags p) (g : k ≡ result_ok b) where
+      pub port_links_none : k ≡ None → None ≡ first_found (filter t (port_links_in marks links owners flags p o))
+      unfolding first_found
+      port_links_none n =
+          let r = err_told b g n in
+          ap (λ l. first_found (filter t l)) (sym (block_unseen owners flags p (port_links_by marks links owners flags p o) [] r.0 refl refl (sym e ∙ r.1)))
+          ∙ port_links_at (seen_in owners flags p) refl
 
-    pub port_links_scanned : (n : ℕ) (d : Direction) (first end : ℕ) (r : Option SubportLink) → seen_in owners flags p ≡ visible n d
-        → first ≡ span_first marks links owners p d → end ≡ span_count marks links owners p d
-        → r ≡ first_found (filter t (links_in links owners flags p first o (end - o))) → r ≡ first_found (filter t (port_links_in marks links owners flags p o))
-    port_links_scanned n d first end r e f g h =
-        h ∙ ap (λ x. first_found (filter t (links_in links owners flags p x o (end - o)))) f
-        ∙ ap (λ x. first_found (filter t (links_in links owners flags p (span_first marks links owners p d) o (x - o)))) g ∙ port_links_at (visible n d) e
+      pub port_links_scanned : {n : NodeIndex} {d : Direction} {first end : ℕ} {r : Option SubportLink} → k ≡ Some (n, d)
+          → first ≡ span_first marks links owners p d → end ≡ span_count marks links owners p d
+          → r ≡ first_found (filter t (links_in links owners flags p first o (end - o))) → r ≡ first_found (filter t (port_links_in marks links owners flags p o))
+      port_links_scanned {n} {d} {first} {end} s f h q =
+          q ∙ ap (λ x. first_found (filter t (links_in links owners flags p x o (end - o)))) f
+          ∙ ap (λ x. first_found (filter t (links_in links owners flags p (span_first marks links owners p d) o (x - o)))) h
+          ∙ port_links_at (visible n.0 d) (block_found owners flags p n d (read_ok e g s))
 
     module _ (stop : ℕ) where
       pub row_turn : (r : Option SubportLink) → p < stop → r ≡ first_found (filter t (port_links_in marks links owners flags p o)) → r ≡ None
@@ -144,10 +154,10 @@ module _ (marks : List Bool) (links owners : List ℕ) (flags : List Bool) where
       row_done h = let a : stop - p ≡ 0 = omega arith in rw a
 
   module _ (t : SubportLink → Bool) (from end held o : ℕ) where
-    pub beyond_start : (s : ℕ × ℕ) → s ≡ cond (leb held from) (from, 0) (held - 1, o + 1)
-        → first_found (filter t (links_rest marks links owners flags s.0 s.1 (min end port_slots - s.0))) ≡ first_found (filter t (beyond_in marks links owners flags from end held o))
+    pub beyond_start : (s : ℕ × ℕ) {r : Option SubportLink} → s ≡ cond (leb held from) (from, 0) (held - 1, o + 1)
+        → r ≡ first_found (filter t (links_rest marks links owners flags s.0 s.1 (min end port_slots - s.0))) → r ≡ first_found (filter t (beyond_in marks links owners flags from end held o))
     unfolding beyond_in
-    beyond_start s e = go (leb held from) s e
+    beyond_start s e f = f ∙ go (leb held from) s e
       where
         go : (b : Bool) (s : ℕ × ℕ) → s ≡ cond b (from, 0) (held - 1, o + 1)
             → first_found (filter t (links_rest marks links owners flags s.0 s.1 (min end port_slots - s.0)))
@@ -168,11 +178,11 @@ module _ (marks : List Bool) (links owners : List ℕ) (flags : List Bool) where
     block_free (node_variants.Free f) h g k = refl
     block_free (node_variants.Node k) h g n = cc
 
-    pub block_scanned : (e : NodeEntry) (k : NodeMeta) (h : Bool) (a b : ℕ) (r : Option SubportLink) {m : Option NodeMeta} → m ≡ meta_of_entry e → m ≡ Some k → h ≡ false
+    pub block_scanned : (e : NodeEntry) {k : NodeMeta} {h : Bool} {a b : ℕ} {r : Option SubportLink} {m : Option NodeMeta} → m ≡ meta_of_entry e → m ≡ Some k → h ≡ false
         → a ≡ ports_from k (One Outgoing) → b ≡ ports_to k (One Outgoing)
         → r ≡ first_found (filter (λ w. true) (beyond_in marks links owners flags a b held o)) → r ≡ first_found (block_links_in marks links owners flags e h held o)
-    block_scanned (node_variants.Free f) k h a b r g n off ea eb er = cc
-    block_scanned (node_variants.Node l) k h a b r g n off ea eb er =
+    block_scanned (node_variants.Free f) g n off ea eb er = cc
+    block_scanned (node_variants.Node l) {k = k} {a = a} {b = b} g n off ea eb er =
         let same : k ≡ l = cc in
         er ∙ ap first_found (filter_every (beyond_in marks links owners flags a b held o)) ∙ rw (off, ea, eb, same)
 

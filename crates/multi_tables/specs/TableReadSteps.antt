@@ -1,5 +1,5 @@
 -- Steps of the leaves that read lent tables, over plain values.
-use Rattle.std.specs.Prelude.{Bool, ◌≡◌, List, eqb, Option, Some, None, MatchOption, unwrap_or, Result, Ok, Err}
+use Rattle.std.specs.Prelude.{Bool, not, ◌≡◌, List, eqb, Option, Some, None, unwrap_or, Result, Ok, Err}
 use Rattle.std.proofs.Math.Bool.{true, false, cond}
 use Rattle.std.proofs.Math.Path.{refl, sym, ap}
 use Rattle.std.proofs.Common.{◌∙◌}
@@ -16,6 +16,11 @@ use Rattle.multi_tables.specs.declared.answers.PortPlace.{PortPlace}
 use Rattle.multi_tables.specs.declared.answers.SubportIndex.{SubportIndex}
 use Rattle.multi_tables.specs.declared.answers.Refusal.{Refusal}
 use Rattle.port_tables.specs.TableSteps.{left_one}
+use Rattle.port_tables.specs.Searches.{Searched, Ran, turn, Tells, found_by}
+use denote.Ref.{Bor}
+use denote.Param.Members.{Mut}
+use Rattle.std.specs.declared.ops.Range.{Range}
+use Rattle.std.proofs.lemmas.Bool.{not-true, not-false}
 
 -- The loop of a run.
 
@@ -28,26 +33,26 @@ run_bound t i (suc n) = go (t i) (run_bound t (suc i) n)
     go true h = omega arith
     go false h = omega arith
 
--- what a search finds where the test first fails
-row_all : (t : ℕ → Bool) (p n : ℕ) → ((k : ℕ) → p ≤ k → k < p + n → t k ≡ true) → in_row t p n ≡ n
+-- a run ends where the test first fails, or with the slots
+pub run_ends : (t : ℕ → Bool) (i k n : ℕ) → ((j : ℕ) → j < k → t (i + j) ≡ true) → k ≤ n → (k < n → t (i + k) ≡ false) → in_row t i n ≡ k
 unfolding in_row
-row_all t p zero h = refl
-row_all t p (suc n) h = rw (h p (omega arith) (omega arith), row_all t (suc p) n (λ k a b. h k (omega arith) (omega arith))) refl
+run_ends t i k zero all l end = omega arith
+run_ends t i zero (suc n) all l end =
+    let e : i + 0 ≡ i = omega arith in
+    rw (ap t (sym e) ∙ end (omega arith))
+run_ends t i (suc k) (suc n) all l end =
+    let e : i + 0 ≡ i = omega arith in
+    let r = run_ends t (suc i) k n (λ j h. ap t (omega arith) ∙ all (suc j) (omega arith)) (omega arith) (λ h. ap t (omega arith) ∙ end (omega arith)) in
+    rw (ap t (sym e) ∙ all 0 (omega arith)) (ap suc r)
 
-row_stops : (t : ℕ → Bool) (p n d : ℕ) → d < n → t (p + d) ≡ false → ((k : ℕ) → p ≤ k → k < p + d → t k ≡ true) → in_row t p n ≡ d
-unfolding in_row
-row_stops t p zero d b e h = absurd (omega arith)
-row_stops t p (suc n) zero b e h = let z : p + 0 ≡ p = omega arith in rw (rw z at e) refl
-row_stops t p (suc n) (suc d) b e h =
-    let s : p + suc d ≡ suc p + d = omega arith in
-    rw (h p (omega arith) (omega arith), row_stops t (suc p) n d (omega arith) (rw s at e) (λ k a g. h k (omega arith) (omega arith))) refl
-
-pub row_found : (t : ℕ → Bool) (n : ℕ) (r : Option ℕ) → MatchOption r ((k : ℕ) → 0 ≤ k → k < n → t k ≡ true) (λ i. (0 ≤ i) × (i < n) × (t i ≡ false) × ((k : ℕ) → 0 ≤ k → k < i → t k ≡ true))
-    → unwrap_or r n ≡ in_row t 0 n
-row_found t n None h = sym (row_all t 0 n (λ k a b. h k (omega arith) (omega arith)))
+row_found : (t : ℕ → Bool) (n : ℕ) (r : Option ℕ) → Searched (λ k. not (t k)) 0 n r → unwrap_or r n ≡ in_row t 0 n
+row_found t n None h = sym (run_ends t 0 n n (λ j l. ap t (omega arith) ∙ not-false (t j) (h j (omega arith) l)) (omega arith) (λ l. absurd (omega arith)))
 row_found t n (Some i) (low, high, hit, passed) =
-    let z : 0 + i ≡ i = omega arith in
-    sym (row_stops t 0 n i high (rw z hit) (λ k a b. passed k a (omega arith)))
+    sym (run_ends t 0 i n (λ j l. ap t (omega arith) ∙ not-false (t j) (passed j (omega arith) l)) (omega arith) (λ l. ap t (omega arith) ∙ not-true (t i) hit))
+
+-- a row ends where `find`, whose closure answers the opposite of the test, stops; else at the end
+pub row_read : {F : Type 0} {g : Mut F (Bor ℕ × Unit {0}) Bool} {f : F} {n x : ℕ} (t : ℕ → Bool) (u : Range ℕ) (r : Option ℕ) → x ≡ unwrap_or r n → Ran turn g (record { start = 0; end = n }) f u r → Tells g f (λ k. not (t k)) → x ≡ in_row t 0 n
+row_read t u r e ran told = e ∙ row_found t _ r (found_by (λ k. not (t k)) u r ran told)
 
 pub run_turn : (t : ℕ → Bool) (k n : ℕ) → k < n → t k ≡ true → k + in_row t k (n - k) ≡ k + 1 + in_row t (k + 1) (n - (k + 1))
 unfolding in_row

@@ -155,6 +155,7 @@ impl WireTables<'_> {
     }
 
     // The first link of a port at an offset from `from` on.
+    #[tactic(auto, using(crate::specs::ScanSteps::port_links_none))]
     fn port_link_from(self, only: LinkFilter, port: u32, from: usize) -> Option<SubportLink>
         ensures { (result ≡ first_found (filter (λ w. passes_in self.entry.owners.now self.entry.flags.now only w.to.port.0)
             (port_links_in self.entry.marks.now self.entry.links.now self.entry.owners.now self.entry.flags.now port from)))

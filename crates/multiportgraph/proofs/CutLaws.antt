@@ -4,17 +4,14 @@ use Rattle.std.proofs.Common.{◌∙◌, ap, sym, subst}
 use Rattle.std.proofs.Math.Bool.{true, false, cond}
 use Rattle.std.proofs.Math.Path.{refl}
 use Rattle.std.specs.Prelude.{◌≡◌, Bool, ℕ, List, Option, Some, None, Result, Ok, Err}
-use Rattle.port_tables.specs.Entries.{port#}
 use Rattle.port_tables.specs.declared.direction.Direction.{Direction}
 use Rattle.portgraph.specs.Calls.{unlink_port}
 use Rattle.portgraph.specs.GoodSlots.{zero_is_not_one}
 use Rattle.portgraph.specs.Model.{Model}
 use Rattle.multi_tables.specs.Forms.{Port, dead, hidden, visible, subport#}
-use Rattle.multi_tables.specs.declared.answers.PortPlace.{PortPlace}
-use Rattle.multi_tables.specs.declared.answers.Refusal.TheVariants.{NoRoom, UnknownPort, HiddenPort}
-use Rattle.multi_tables.specs.declared.answers.Refusal.{Refusal}
+use Rattle.multi_tables.specs.declared.answers.Refusal.TheVariants.{NoRoom}
 use Rattle.multiportgraph.specs.Calls.{cut_port, cut_plain}
-use Rattle.multiportgraph.specs.Cases.{cut_refused, cut_seen}
+use Rattle.multiportgraph.specs.Cases.{cut_seen}
 use Rattle.multiportgraph.specs.CopyLaws.{port_at, whole_cut, split_cut}
 use Rattle.multiportgraph.specs.Ends.{BlockPort, block_seen}
 use Rattle.multiportgraph.specs.Graph.{with_graph}
@@ -44,11 +41,6 @@ module _ (m : MultiPortGraph) (p : ℕ) where
 module _ (m : MultiPortGraph) (p : ℕ) where
   pub cut_port_seen : (s : Port) → seen m p ≡ s → cut_seen m p s ≡ cut_port m p
   cut_port_seen s e = ap (cut_seen m p) (sym e) ∙ sym (cut_cases m p)
-
-  pub cut_port_split : (n : ℕ) (d : Direction) (r : MultiPortGraph) {x : PortPlace} → seen m p ≡ visible n d → is_split m p ≡ true → r ≡ unsplit m p → x ≡ standing m (subport# p 0)
-      → ◌≡◌ {A = PortUnlinked} (record { graph = r; answer = Ok (Some (subport# p 0, x)) }) (cut_port m p)
-  unfolding cut_port
-  cut_port_split n d r e s h k = rw (e, s, h, k)
 
 module _ {m : MultiPortGraph} {M : Model} (f : Fine m M) where
   -- every wire at the port goes, and nothing else changes; refused, the graph stays
@@ -101,15 +93,6 @@ module _ {m : MultiPortGraph} {M : Model} (f : Fine m M) where
       go (visible n d) = port (is_split m p) refl
 
 module _ {m : MultiPortGraph} (w : MultiWf m) where
-  pub port_cut_refused : (p : ℕ) {a : Refusal} → direction_of m p ≡ Err a → cut_refused m a ≡ cut_port m p
-  unfolding direction_of
-  port_cut_refused p {a} e = go (seen m p) refl e
-    where
-      go : (s : Port) → seen m p ≡ s → direction_seen p s ≡ Err a → cut_refused m a ≡ cut_port m p
-      go dead t e = let q : UnknownPort (port# p) ≡ a = cc in ap (cut_refused m) (sym q) ∙ cut_port_seen m p dead t
-      go hidden t e = let q : HiddenPort (port# p) ≡ a = cc in ap (cut_refused m) (sym q) ∙ cut_port_seen m p hidden t
-      go (visible n d) t e = absurd (zero_is_not_one (cc))
-
   -- a port that has a side is a block's
   pub block_of_side : (p : ℕ) {d : Direction} → direction_of m p ≡ Ok d → OnBlock m p d
   unfolding direction_of

@@ -1,13 +1,14 @@
 -- What the loops over a block's ports and over listed hidden nodes do, turn by turn, and what the calls that remove or resize a block amount to.
 use Rattle.std.proofs.Math.Path.{◌≡◌, refl, subst}
 use Rattle.std.proofs.Common.{sym, ap, ◌∙◌, length-append, drop-cons, le-leb}
-use Rattle.std.specs.Prelude.{Bool, cond, List, [], ◌∷◌, ◌++◌, get_or, set, length, take, drop, Option, Some, None, Result, Ok, Err}
+use Rattle.std.specs.Prelude.{Bool, cond, ltb, List, [], ◌∷◌, ◌++◌, get_or, set, length, take, drop, Option, Some, None, Result, Ok, Err}
 use Rattle.std.proofs.Math.Bool.{true, false}
 use Prim.Native.Nat.{ℕ, zero, suc, ◌+◌, ◌-◌, ◌≤◌, ◌<◌, min}
 use native.Mathlib.Omega.{arith}
 use Rattle.std.proofs.lemmas.List.Edits.{sets, sets-eq}
 use Rattle.std.proofs.Math.Seq.{length-sets, take-append_seam}
 use Rattle.std.proofs.lemmas.Bool.{lt-leb}
+use borrow.Author.Tests.{ltb-true, ltb-false}
 use Rattle.port_tables.specs.Limits.{node_ports, present}
 use Rattle.portgraph.specs.Model.{Wf}
 use Rattle.portgraph.specs.Lookups.{entry_at, meta_at}
@@ -28,6 +29,7 @@ use Rattle.portgraph.specs.declared.portgraph.PortGraph.{PortGraph}
 use Rattle.multiportgraph.specs.Reading.{is_hidden, is_split, copy_node}
 use Rattle.multiportgraph.specs.Calls.{drop_block, remove_block, set_as, set_counts, told_meta, moves_told, moves_told_under, set_counts_under}
 use Rattle.multiportgraph.specs.WellFormed.{MultiWf}
+use Rattle.multiportgraph.specs.CallSteps.{lower_wf}
 use Rattle.multiportgraph.specs.Presumed.{Resizes}
 use Rattle.multiportgraph.specs.CodeForms.{block_in, block_found}
 use Rattle.multi_tables.specs.declared.answers.Refusal.{Refusal}
@@ -36,7 +38,6 @@ use Rattle.multiportgraph.specs.declared.multiportgraph.NodeRemoved.{NodeRemoved
 use Rattle.multiportgraph.specs.declared.multiportgraph.PortsSet.{PortsSet}
 use Rattle.multiportgraph.specs.declared.multiportgraph.MultiPortGraph.{MultiPortGraph}
 use Rattle.multiportgraph.specs.Graph.{with_graph, with_marks}
-use Rattle.multiportgraph.specs.Answers.{remove_numbers, set_numbers}
 use Rattle.multiportgraph.specs.HiddenNodes.{remove_copy, unsplit, unsplit_range, marks_moved, recounted, copies_in, copies_dropped, remove_lone, remove_all}
 use Rattle.multiportgraph.specs.Cases.{remove_refused, remove_meta, set_refused, resized, set_meta}
 use Rattle.multiportgraph.specs.CaseLaws.{remove_cases, set_cases}
@@ -186,38 +187,24 @@ copies_dropped_few m k i o f =
 
 -- Removing a block.
 
-pub lower_wf : (m : MultiPortGraph) → MultiWf m → Wf m.graph
-lower_wf m w = record { model = w.model; good = w.fine.good; holds = w.fine.holds }
-
 pub wf_bare : (m m' : MultiPortGraph) (p n : ℕ) → m' ≡ unsplit_range m p n → Wf m.graph → Wf m'.graph
 wf_bare m m' p n e w = rw e (wf_unsplit_range m p n w)
 
-abbrev RemovedAs : MultiPortGraph → ℕ → NodeRemoved → Type 0
-RemovedAs m n r = (r ≡ remove_block m n) × (remove_numbers r.answer ≡ remove_numbers (remove_block m n).answer)
-
-removed_as : (m : MultiPortGraph) (n : ℕ) (r : NodeRemoved) → r ≡ remove_block m n → RemovedAs m n r
-removed_as m n r e = (e, ap (λ x. remove_numbers x.answer) e)
-
 module _ (m : MultiPortGraph) (n : ℕ) where
-  pub remove_unknown : None ≡ meta_at m.graph n → RemovedAs m n (remove_refused m UnknownNode)
-  remove_unknown e = removed_as m n _ (ap (remove_meta m n) e ∙ sym (remove_cases m n))
-
-  remove_cond : (k : NodeMeta) (b : Bool) → is_hidden m n ≡ b
-      → cond b (remove_refused m HiddenNode) (record { graph = drop_block m n k; answer = Ok tt }) ≡ remove_meta m n (Some k)
-  remove_cond k b e = ap (λ x. cond x (remove_refused m HiddenNode) (record { graph = drop_block m n k; answer = Ok tt })) (sym e)
-
-  pub remove_hidden : (k : NodeMeta) → Some k ≡ meta_at m.graph n → is_hidden m n ≡ true → RemovedAs m n (remove_refused m HiddenNode)
-  remove_hidden k e h = removed_as m n _ (remove_cond k true h ∙ ap (remove_meta m n) e ∙ sym (remove_cases m n))
-
-  -- by what is found of the node
-  pub remove_refused_lem : {a : Refusal} → Err a ≡ block_found m n → RemovedAs m n (remove_refused m a)
+  -- a node that is no block is refused, by what is found of it
+  pub remove_refused_lem : {a : Refusal} {r : Result NodeMeta Refusal} → r ≡ block_found m n → r ≡ Err a → (m ≡ (remove_block m n).graph) × (Err a ≡ (remove_block m n).answer)
   unfolding block_found
-  remove_refused_lem {a} e = go (meta_at m.graph n) refl (is_hidden m n) refl e
+  remove_refused_lem {a} f g = let s = there (meta_at m.graph n) refl (is_hidden m n) refl (sym g ∙ f) in (ap (λ (x : NodeRemoved). x.graph) s, ap (λ (x : NodeRemoved). x.answer) s)
     where
-      go : (x : Option NodeMeta) → x ≡ meta_at m.graph n → (h : Bool) → is_hidden m n ≡ h → Err a ≡ block_in h x → RemovedAs m n (remove_refused m a)
-      go None f h g q = let z : UnknownNode ≡ a = cc in subst (λ (y : Refusal). RemovedAs m n (remove_refused m y)) z (remove_unknown f)
-      go (Some k) f true g q = let z : HiddenNode ≡ a = cc in subst (λ (y : Refusal). RemovedAs m n (remove_refused m y)) z (remove_hidden k f g)
-      go (Some k) f false g q = let z : ◌≡◌ {A = ℕ} 0 1 = cc in absurd (omega arith)
+      As : Refusal → Type 0
+      As y = remove_refused m y ≡ remove_block m n
+
+      there : (x : Option NodeMeta) → x ≡ meta_at m.graph n → (h : Bool) → is_hidden m n ≡ h → Err a ≡ block_in h x → As a
+      there None e h g q = let z : UnknownNode ≡ a = cc in subst As z (ap (remove_meta m n) e ∙ sym (remove_cases m n))
+      there (Some k) e true g q =
+          let z : HiddenNode ≡ a = cc in
+          subst As z (ap (λ x. cond x (remove_refused m HiddenNode) (record { graph = drop_block m n k; answer = Ok tt })) (sym g) ∙ ap (remove_meta m n) e ∙ sym (remove_cases m n))
+      there (Some k) e false g q = let z : ◌≡◌ {A = ℕ} 0 1 = cc in absurd (omega arith)
 
   pub found_is : (k : NodeMeta) → Ok k ≡ block_found m n → (Some k ≡ meta_at m.graph n) × (is_hidden m n ≡ false)
   unfolding block_found
@@ -237,14 +224,18 @@ list_taken l {vs = vs} h e f =
     let long = ap length e ∙ length-sets l 0 vs in
     (omega arith, rw (e, f, sets-eq vs l 0 z) (take-append_seam vs (drop (0 + length vs) l)))
 
-pub wf_set_is : (m : MultiPortGraph) (s : lower_set.PortsSet) (n i o room : ℕ) → MultiWf m → s ≡ set_num_ports m.graph n i o room → Wf s.graph
-wf_set_is m s n i o room w e = rw e (wf_set m.graph n i o room (lower_wf m w))
+pub wf_set_is : (m : MultiPortGraph) (low : PortGraph) (n i o room : ℕ) → MultiWf m → low ≡ (set_num_ports m.graph n i o room).graph → Wf low
+wf_set_is m low n i o room w e = rw e (wf_set m.graph n i o room (lower_wf m w))
 
 pub block_in_lem : (m : MultiPortGraph) (n : ℕ) (k : NodeMeta) → MultiWf m → Some k ≡ meta_at m.graph n → BlockFits k
 block_in_lem m n k w e = found_block_fits m.graph (lower_wf m w) n k e
 
-pub resizes_found : {m : MultiPortGraph} {n i o : ℕ} {k : NodeMeta} → MultiWf m → i + o ≤ node_ports → Ok k ≡ block_found m n → Resizes m n k i o
-resizes_found {m} {n} {k = k} w few e = let found = found_is m n k e in record { wf = w; few = few; meta = found.0; seen = found.1 }
+pub found_fits : {m : MultiPortGraph} (n : ℕ) {k : NodeMeta} {r : Result NodeMeta Refusal} → MultiWf m → r ≡ block_found m n → r ≡ Ok k → BlockFits k
+found_fits {m} n {k} w f g = block_in_lem m n k w (found_is m n k (sym g ∙ f)).0
+
+-- a block that was found, with counts that were tested
+pub resizes_found : {m : MultiPortGraph} {n i o : ℕ} {k : NodeMeta} {t : Bool} {r : Result NodeMeta Refusal} → MultiWf m → t ≡ ltb node_ports (i + o) → t ≡ false → r ≡ block_found m n → r ≡ Ok k → Resizes m n k i o
+resizes_found {m} {n} {k = k} w e h f g = let found = found_is m n k (sym g ∙ f) in record { wf = w; few = ltb-false _ _ (sym e ∙ h); meta = found.0; seen = found.1 }
 
 -- what the call gives, whatever room the move list has
 module _ (m : MultiPortGraph) (n i o room : ℕ) where
@@ -268,17 +259,18 @@ module _ (m : MultiPortGraph) (n i o room : ℕ) where
           let p : set_refused m HiddenNode ≡ set_meta m n i o room (Some k) = rw h in
           p ∙ set_by (Some k) e
 
-      pub set_block : (s : lower_set.PortsSet) (a : Result ℕ SetError) (g : MultiPortGraph) → is_hidden m n ≡ false → s ≡ set_num_ports m.graph n i o room
-          → s.answer ≡ a → g ≡ resized m n k i o s.graph a → record { graph = g; answer = set_as a } ≡ set_counts m n i o room
-      set_block s a g h f q u =
-          let v : record { graph = resized m n k i o s.graph s.answer; answer = set_as s.answer } ≡ set_meta m n i o room (Some k) = rw (h, f) in
-          let y : ◌≡◌ {A = PortsSet} (record { graph = g; answer = set_as a }) (record { graph = resized m n k i o s.graph s.answer; answer = set_as s.answer }) = rw (q, u) in
+      pub set_block : {low : PortGraph} {r : Result ℕ SetError} (g : MultiPortGraph) → is_hidden m n ≡ false → low ≡ (set_num_ports m.graph n i o room).graph → r ≡ (set_num_ports m.graph n i o room).answer
+          → g ≡ resized m n k i o low r → record { graph = g; answer = set_as r } ≡ set_counts m n i o room
+      set_block {r = r} g h f₁ f₂ u =
+          let below : lower_set.PortsSet = set_num_ports m.graph n i o room in
+          let v : record { graph = resized m n k i o below.graph below.answer; answer = set_as below.answer } ≡ set_meta m n i o room (Some k) = rw h in
+          let y : ◌≡◌ {A = PortsSet} (record { graph = g; answer = set_as r }) (record { graph = resized m n k i o below.graph below.answer; answer = set_as below.answer }) = rw (u, f₁, f₂) in
           y ∙ v ∙ set_by (Some k) e
 
 -- the single-link graph refuses, and stays as it was
-pub kept_below : (g : PortGraph) (n i o room : ℕ) {s : lower_set.PortsSet} {r : Refusal} → s ≡ set_num_ports g n i o room → set_as s.answer ≡ Err r → s.graph ≡ g
+pub kept_below : (g : PortGraph) (n i o room : ℕ) {low : PortGraph} {v : Result ℕ SetError} {r : Refusal} → low ≡ (set_num_ports g n i o room).graph → v ≡ (set_num_ports g n i o room).answer → set_as v ≡ Err r → low ≡ g
 unfolding set_num_ports_under
-kept_below g n i o room {s} {r} e z = ap (λ (x : lower_set.PortsSet). x.graph) e ∙ go (plan_of g n i o room) (ap (λ (x : lower_set.PortsSet). set_as x.answer) (sym e) ∙ z)
+kept_below g n i o room {r = r} e f z = e ∙ go (plan_of g n i o room) (ap set_as (sym f) ∙ z)
   where
     go : (p : Plan) → set_as (below.set_by g n i o p).answer ≡ Err r → (below.set_by g n i o p).graph ≡ g
     go (refuse x) h = refl
@@ -293,27 +285,27 @@ unfolding recounted
 recounted_is m n g k e h = h ∙ ap (λ (x : Option NodeMeta). with_marks (with_graph m g) (marks_moved m.multiport x (meta_at g n))) e
 
 -- a block that is there, whatever room the move list has: the lower graph refuses, or has its new counts
-module _ (m : MultiPortGraph) (n i o room : ℕ) (few : i + o ≤ node_ports) (k : NodeMeta) (e : Ok k ≡ block_found m n) (s : lower_set.PortsSet) {c : Result ℕ Refusal}
-    (f : s ≡ set_num_ports m.graph n i o room) (told : c ≡ set_as s.answer) where
-  by_answer : (v : Result ℕ SetError) (g : MultiPortGraph) → s.answer ≡ v → g ≡ resized m n k i o s.graph v → ◌≡◌ {A = PortsSet} (record { graph = g; answer = c }) (set_counts m n i o room)
+module _ {m : MultiPortGraph} {n i o : ℕ} {k : NodeMeta} (h : Resizes m n k i o) (room : ℕ) {low : PortGraph} {r : Result ℕ SetError} {c : Result ℕ Refusal}
+    (f₁ : low ≡ (set_num_ports m.graph n i o room).graph) (f₂ : r ≡ (set_num_ports m.graph n i o room).answer) (told : c ≡ set_as r) where
+  by_answer : (v : Result ℕ SetError) (g : MultiPortGraph) → r ≡ v → g ≡ resized m n k i o low v → ◌≡◌ {A = PortsSet} (record { graph = g; answer = c }) (set_counts m n i o room)
   by_answer v g q u =
       ap (λ (y : Result ℕ Refusal). record { graph = g; answer = y }) (told ∙ ap set_as q)
-      ∙ set_block m n i o room few k (found_is m n k e).0 s v g (found_is m n k e).1 f q u
+      ∙ set_block m n i o room h.few k h.meta g h.seen f₁ (sym q ∙ f₂) u
 
-  pub block_left : {a : Refusal} → c ≡ Err a → ◌≡◌ {A = PortsSet} (record { graph = m; answer = c }) (set_counts m n i o room)
-  block_left {a} z = go s.answer refl (sym told ∙ z)
+  left_as : {a : Refusal} → c ≡ Err a → ◌≡◌ {A = PortsSet} (record { graph = m; answer = c }) (set_counts m n i o room)
+  left_as {a} z = go r refl (sym told ∙ z)
     where
-      go : (v : Result ℕ SetError) → s.answer ≡ v → set_as v ≡ Err a → ◌≡◌ {A = PortsSet} (record { graph = m; answer = c }) (set_counts m n i o room)
+      go : (v : Result ℕ SetError) → r ≡ v → set_as v ≡ Err a → ◌≡◌ {A = PortsSet} (record { graph = m; answer = c }) (set_counts m n i o room)
       go (Ok t) q y = let z : ◌≡◌ {A = ℕ} 0 1 = cc in absurd (omega arith)
       go (Err set_error.TooManyPorts) q y = by_answer _ m q refl
       go (Err set_error.UnknownNode) q y = by_answer _ m q refl
       go (Err set_error.MovesTooShort) q y = by_answer _ m q refl
       go (Err set_error.NoRoom) q y = by_answer _ m q refl
 
-  pub block_done : {t : ℕ} {g : MultiPortGraph} → c ≡ Ok t → g ≡ remove_all (recounted m n s.graph) (copies_dropped m k i o) → ◌≡◌ {A = PortsSet} (record { graph = g; answer = c }) (set_counts m n i o room)
-  block_done {t} {g} z u = go s.answer refl (sym told ∙ z)
+  done_as : {t : ℕ} {g : MultiPortGraph} → c ≡ Ok t → g ≡ remove_all (recounted m n low) (copies_dropped m k i o) → ◌≡◌ {A = PortsSet} (record { graph = g; answer = c }) (set_counts m n i o room)
+  done_as {t} {g} z u = go r refl (sym told ∙ z)
     where
-      go : (v : Result ℕ SetError) → s.answer ≡ v → set_as v ≡ Ok t → ◌≡◌ {A = PortsSet} (record { graph = g; answer = c }) (set_counts m n i o room)
+      go : (v : Result ℕ SetError) → r ≡ v → set_as v ≡ Ok t → ◌≡◌ {A = PortsSet} (record { graph = g; answer = c }) (set_counts m n i o room)
       go (Ok y) q x = by_answer _ g q u
       go (Err set_error.TooManyPorts) q x = let z : ◌≡◌ {A = ℕ} 0 1 = cc in absurd (omega arith)
       go (Err set_error.UnknownNode) q x = let z : ◌≡◌ {A = ℕ} 0 1 = cc in absurd (omega arith)
@@ -321,14 +313,22 @@ module _ (m : MultiPortGraph) (n i o room : ℕ) (few : i + o ≤ node_ports) (k
       go (Err set_error.NoRoom) q x = let z : ◌≡◌ {A = ℕ} 0 1 = cc in absurd (omega arith)
 
   -- refused below, the graph is the one handed in
-  pub left_below : {a : Refusal} → c ≡ Err a → with_graph m s.graph ≡ (set_counts m n i o room).graph
-  left_below z = ap (with_graph m) (kept_below m.graph n i o room f (sym told ∙ z)) ∙ ap (λ (x : PortsSet). x.graph) (block_left z)
+  pub block_left : {a : Refusal} → c ≡ Err a → (with_graph m low ≡ (set_counts m n i o room).graph) × (Err a ≡ (set_counts m n i o room).answer)
+  block_left z =
+      (ap (with_graph m) (kept_below m.graph n i o room f₁ f₂ (sym told ∙ z)) ∙ ap (λ (x : PortsSet). x.graph) (left_as z), sym z ∙ ap (λ (x : PortsSet). x.answer) (left_as z))
+
+  pub block_done : {t : ℕ} {g : MultiPortGraph} → c ≡ Ok t → g ≡ remove_all (recounted m n low) (copies_dropped m k i o) → (g ≡ (set_counts m n i o room).graph) × (Ok t ≡ (set_counts m n i o room).answer)
+  block_done z u = (ap (λ (x : PortsSet). x.graph) (done_as z u), sym z ∙ ap (λ (x : PortsSet). x.answer) (done_as z u))
 
 -- a node that is no block is refused alike, whatever room the move list has
-pub block_refused : (m : MultiPortGraph) (n i o room : ℕ) {a : Refusal} → i + o ≤ node_ports → Err a ≡ block_found m n → set_refused m a ≡ set_counts m n i o room
+pub block_refused : (m : MultiPortGraph) (n i o room : ℕ) {a : Refusal} {t : Bool} {r : Result NodeMeta Refusal} → t ≡ ltb node_ports (i + o) → t ≡ false → r ≡ block_found m n → r ≡ Err a
+    → (m ≡ (set_counts m n i o room).graph) × (Err a ≡ (set_counts m n i o room).answer)
 unfolding block_found
-block_refused m n i o room {a} few e = there (meta_at m.graph n) refl (is_hidden m n) refl e
+block_refused m n i o room {a} e h f g = let s = there (meta_at m.graph n) refl (is_hidden m n) refl (sym g ∙ f) in (ap (λ (x : PortsSet). x.graph) s, ap (λ (x : PortsSet). x.answer) s)
   where
+    few : i + o ≤ node_ports
+    few = ltb-false _ _ (sym e ∙ h)
+
     As : Refusal → Type 0
     As y = set_refused m y ≡ set_counts m n i o room
 
@@ -337,61 +337,49 @@ block_refused m n i o room {a} few e = there (meta_at m.graph n) refl (is_hidden
     there (Some k) f true g q = let z : HiddenNode ≡ a = cc in subst As z (set_copy m n i o room few k f g)
     there (Some k) f false g q = let z : ◌≡◌ {A = ℕ} 0 1 = cc in absurd (omega arith)
 
+-- the call that takes a move list
 module _ (m : MultiPortGraph) (n i o : ℕ) (b : List ℕ) where
-  abbrev SetAs : PortsSet → List ℕ → Type 0
-  SetAs r b' =
-      (r ≡ set_counts m n i o (length b)) × (b' ≡ moves_told m n i o b)
-      × (set_numbers r.answer ≡ set_numbers (set_counts m n i o (length b)).answer)
-
-  set_as_lem : (r : PortsSet) (b' : List ℕ) → r ≡ set_counts m n i o (length b) → b' ≡ moves_told m n i o b → SetAs r b'
-  set_as_lem r b' e f = (e, f, ap (λ x. set_numbers x.answer) e)
+  abbrev SetAs : MultiPortGraph → Result ℕ Refusal → List ℕ → Type 0
+  SetAs g a b' = (g ≡ (set_counts m n i o (length b)).graph) × (a ≡ (set_counts m n i o (length b)).answer) × (b' ≡ moves_told m n i o b)
 
   refused_told : (a : Result ℕ SetError) (h : Bool) → plan_of m.graph n i o (length b) ≡ refuse a → b ≡ told_meta m n i o b h
   unfolding moves_after_under
   refused_told a true e = refl
   refused_told a false e = rw e
 
-  pub set_too_many : node_ports < i + o → SetAs (set_refused m TooManyPorts) b
+  pub set_too_many : {t : Bool} → t ≡ ltb node_ports (i + o) → t ≡ true → SetAs m (Err TooManyPorts) b
   unfolding moves_told_under
-  set_too_many h =
-      set_as_lem _ b (set_many m n i o (length b) h) (refused_told _ (is_hidden m n) (plan_too_many m.graph n i o (length b) h))
+  set_too_many e h =
+      let many = ltb-true _ _ (sym e ∙ h) in
+      let s = set_many m n i o (length b) many in
+      (ap (λ (x : PortsSet). x.graph) s, ap (λ (x : PortsSet). x.answer) s, refused_told _ (is_hidden m n) (plan_too_many m.graph n i o (length b) many))
 
-  module _ (few : i + o ≤ node_ports) where
-    plan_none : (x : NodeEntry) → entry_at m.graph n ≡ x → None ≡ meta_of_entry x → plan_of m.graph n i o (length b) ≡ refuse (Err set_error.UnknownNode)
-    plan_none (node_variants.Free f) e h = plan_unknown m.graph n i o (length b) few f e
-    plan_none (node_variants.Node k) e h = let z : ◌≡◌ {A = ℕ} 0 1 = cc in absurd (omega arith)
+  plan_none : i + o ≤ node_ports → (x : NodeEntry) → entry_at m.graph n ≡ x → None ≡ meta_of_entry x → plan_of m.graph n i o (length b) ≡ refuse (Err set_error.UnknownNode)
+  plan_none few (node_variants.Free f) e h = plan_unknown m.graph n i o (length b) few f e
+  plan_none few (node_variants.Node k) e h = let z : ◌≡◌ {A = ℕ} 0 1 = cc in absurd (omega arith)
 
-    pub set_unknown : None ≡ meta_at m.graph n → SetAs (set_refused m UnknownNode) b
-    unfolding moves_told_under
-    set_unknown e = set_as_lem _ b (set_gone m n i o (length b) few e) (refused_told _ (is_hidden m n) (plan_none (entry_at m.graph n) refl e))
-
-    module _ (k : NodeMeta) (e : Some k ≡ meta_at m.graph n) where
-      pub set_hidden : is_hidden m n ≡ true → SetAs (set_refused m HiddenNode) b
-      unfolding moves_told_under
-      set_hidden h = set_as_lem _ b (set_copy m n i o (length b) few k e h) (rw h)
-
-  -- by what is found of the node
-  pub set_refused_lem : {a : Refusal} → i + o ≤ node_ports → Err a ≡ block_found m n → SetAs (set_refused m a) b
-  unfolding block_found
-  set_refused_lem {a} few e = there (meta_at m.graph n) refl (is_hidden m n) refl e
+  told_none : {a : Refusal} → i + o ≤ node_ports → Err a ≡ block_found m n → b ≡ moves_told m n i o b
+  unfolding block_found moves_told_under
+  told_none {a} few e = there (meta_at m.graph n) refl (is_hidden m n) refl e
     where
-      As : Refusal → Type 0
-      As y = SetAs (set_refused m y) b
-
-      there : (x : Option NodeMeta) → x ≡ meta_at m.graph n → (h : Bool) → is_hidden m n ≡ h → Err a ≡ block_in h x → As a
-      there None f h g q = let z : UnknownNode ≡ a = cc in subst As z (set_unknown few f)
-      there (Some k) f true g q = let z : HiddenNode ≡ a = cc in subst As z (set_hidden few k f g)
+      there : (x : Option NodeMeta) → x ≡ meta_at m.graph n → (h : Bool) → is_hidden m n ≡ h → Err a ≡ block_in h x → b ≡ told_meta m n i o b (is_hidden m n)
+      there None f h g q = refused_told _ (is_hidden m n) (plan_none few (entry_at m.graph n) refl f)
+      there (Some k) f true g q = rw g
       there (Some k) f false g q = let z : ◌≡◌ {A = ℕ} 0 1 = cc in absurd (omega arith)
 
-  -- a block that is there: the lower graph refuses, or has its new counts
-  module _ (few : i + o ≤ node_ports) (k : NodeMeta) (e : Ok k ≡ block_found m n) (s : lower_set.PortsSet) {b' : List ℕ} {c : Result ℕ Refusal}
-      (f : s ≡ set_num_ports m.graph n i o (length b)) (j : b' ≡ moves_after m.graph n i o b) (told : c ≡ set_as s.answer) where
-    moves_are : b' ≡ moves_told m n i o b
-    unfolding moves_told_under
-    moves_are = rw (found_is m n k e).1 j
+  -- by what is found of the node
+  pub set_refused_lem : {a : Refusal} {t : Bool} {r : Result NodeMeta Refusal} → t ≡ ltb node_ports (i + o) → t ≡ false → r ≡ block_found m n → r ≡ Err a → SetAs m (Err a) b
+  set_refused_lem e h f g = let x = block_refused m n i o (length b) e h f g in (x.0, x.1, told_none (ltb-false _ _ (sym e ∙ h)) (sym g ∙ f))
 
-    pub set_left : {a : Refusal} → c ≡ Err a → SetAs (record { graph = m; answer = c }) b'
-    set_left z = set_as_lem _ b' (block_left m n i o (length b) few k e s f told z) moves_are
+-- a block that is there: the lower graph refuses, or has its new counts
+module _ {m : MultiPortGraph} {n i o : ℕ} {k : NodeMeta} (h : Resizes m n k i o) (b : List ℕ) {b' : List ℕ} {low : PortGraph} {r : Result ℕ SetError} {c : Result ℕ Refusal}
+    (f₁ : low ≡ (set_num_ports m.graph n i o (length b)).graph) (f₂ : r ≡ (set_num_ports m.graph n i o (length b)).answer) (j : b' ≡ moves_after m.graph n i o b) (told : c ≡ set_as r) where
+  moves_are : b' ≡ moves_told m n i o b
+  unfolding moves_told_under
+  moves_are = rw h.seen j
 
-    pub set_done : {t : ℕ} {g : MultiPortGraph} → c ≡ Ok t → g ≡ remove_all (recounted m n s.graph) (copies_dropped m k i o) → SetAs (record { graph = g; answer = c }) b'
-    set_done z u = set_as_lem _ b' (block_done m n i o (length b) few k e s f told z u) moves_are
+  pub set_left : {a : Refusal} → c ≡ Err a → SetAs m n i o b (with_graph m low) (Err a) b'
+  set_left z = let x = block_left h (length b) f₁ f₂ told z in (x.0, x.1, moves_are)
+
+  pub set_done : {t : ℕ} {g : MultiPortGraph} → c ≡ Ok t → g ≡ remove_all (recounted m n low) (copies_dropped m k i o) → SetAs m n i o b g (Ok t) b'
+  set_done z u = let x = block_done h (length b) f₁ f₂ told z u in (x.0, x.1, moves_are)

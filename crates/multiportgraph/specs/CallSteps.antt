@@ -1,4 +1,5 @@
 -- What the steps of adding, linking, cutting and reading amount to, over plain values.
+use Rattle.multi_tables.specs.declared.answers.Refusal.{Refusal}
 use Rattle.std.specs.Prelude.{◌≡◌, false, ℕ, replicate, Option, Result}
 use Rattle.std.proofs.Common.{sym, ◌∙◌}
 use Rattle.std.proofs.Math.Path.{ap}
@@ -8,7 +9,6 @@ use Rattle.portgraph.specs.Calls.{add_node, unlink_port, new_graph}
 use Rattle.port_tables.specs.declared.direction.Direction.{Direction}
 use Rattle.portgraph.specs.declared.portgraph.PortGraph.{PortGraph}
 use Rattle.portgraph.specs.declared.portgraph.PortUnlinked as lower_unlinked
-use Rattle.portgraph.specs.declared.alloc.NodeAdded as lower_added
 use Rattle.multiportgraph.specs.Reading.{seen, is_split}
 use Rattle.multi_tables.specs.Forms.{visible}
 use Rattle.multiportgraph.specs.Calls.{added_as, add_block, cut_plain, cut_port}
@@ -38,12 +38,11 @@ empty_made release g e =
 
 module _ (m : MultiPortGraph) where
   -- a block is added, or refused
-  pub block_added : (i o : ℕ) (r : lower_added.NodeAdded) (a : Result (NodeIndex × PortIndex) AddError) → r ≡ add_node m.graph i o → r.answer ≡ a
-      → ◌≡◌ {A = NodeAdded} (record { graph = with_graph m r.graph; answer = added_as a }) (add_block m i o)
-  block_added i o r a e f =
-      ap (λ (x : Result (NodeIndex × PortIndex) AddError). record { graph = with_graph m r.graph; answer = added_as x }) (sym f)
-      ∙ ap (λ (x : lower_added.NodeAdded). record { graph = with_graph m x.graph; answer = added_as x.answer }) e
-      ∙ sym (add_cases present m i o)
+  pub added_graph : (i o : ℕ) {low : PortGraph} → low ≡ (add_node m.graph i o).graph → with_graph m low ≡ (add_block m i o).graph
+  added_graph i o e = ap (with_graph m) e ∙ ap (λ (x : NodeAdded). x.graph) (sym (add_cases present m i o))
+
+  pub added_answer : (i o : ℕ) {r : Result (NodeIndex × PortIndex) AddError} {a : Result (NodeIndex × PortIndex) Refusal} → r ≡ (add_node m.graph i o).answer → a ≡ added_as r → a ≡ (add_block m i o).answer
+  added_answer i o e f = f ∙ ap added_as e ∙ ap (λ (x : NodeAdded). x.answer) (sym (add_cases present m i o))
 
   -- every wire at a port is cut
   module _ (p : ℕ) where

@@ -2,16 +2,16 @@
 -- Then the cut of a whole port.
 use Rattle.std.proofs.lemmas.Bool.{cases_Bool}
 use Rattle.std.proofs.lemmas.Bool.{cases_eq}
-use Rattle.std.specs.Prelude.{◌≡◌, refl, Bool, true, List, [], ℕ, ◌+◌, ◌-◌, ◌<◌, set}
+use Rattle.std.specs.Prelude.{◌≡◌, refl, Bool, true, List, [], ◌∷◌, ℕ, zero, suc, ◌+◌, ◌-◌, ◌<◌, set}
 use Rattle.std.proofs.Math.Path.{sym, ap}
 use Rattle.std.proofs.Common.{◌∙◌, subst, inl, inr, eq-eqb, ne_eqb}
 use Rattle.std.proofs.Math.Bool.{false, cond}
 use Rattle.std.proofs.Math.Logic.{⊎_elim}
 use native.Mathlib.Omega.{arith}
 use Rattle.std.proofs.Math.ListN.{length, get_or, length-set}
-use Rattle.std.proofs.Math.Seq.{get_or-set_same, get_or-set_other}
+use Rattle.std.proofs.Math.Seq.{get_or-set_other}
 use Rattle.std.proofs.lemmas.Bool.{eqb-false}
-use Rattle.port_tables.specs.Limits.{node_slots, port_slots}
+use Rattle.port_tables.specs.Limits.{node_slots}
 use Rattle.port_tables.specs.Entries.{reversed, ports_on}
 use Rattle.portgraph.specs.Model as model
 use Rattle.portgraph.specs.Model.{Model, nowhere, to, Slots, gone, live, Good, Holds, Valid, slot_of, ports_of, count_of, total}
@@ -19,16 +19,15 @@ use Rattle.portgraph.specs.Meaning.{remove_model, unlink_model, at_node}
 use Rattle.portgraph.specs.Lookups.{num_ports}
 use Rattle.portgraph.specs.Calls.{remove_node, unlink_port}
 use Rattle.portgraph.specs.Sums.{total_one, drop_kept, drop_joined, drop_there, upd_other, upd_same}
-use Rattle.portgraph.specs.GoodSlots.{gone_not_live, slots_apart, slot_in_range, same_place_lem, node_below}
+use Rattle.portgraph.specs.GoodSlots.{gone_not_live, slots_apart, same_place_lem, node_below}
 use Rattle.portgraph.specs.GoodLaws.{good_remove}
 use Rattle.portgraph.specs.SlotHolds.{remove_law, remove_slots, free_holds}
-use Rattle.port_tables.specs.declared.direction.Direction.{Direction}
-use Rattle.port_tables.specs.declared.direction.Direction.TheVariants.{Incoming, Outgoing}
 use Rattle.port_tables.specs.declared.node_entry.NodeMeta.{NodeMeta}
 use Rattle.portgraph.specs.declared.portgraph.PortGraph.{PortGraph}
 use Rattle.multiportgraph.specs.Reading.{is_hidden, is_split, copy_side, copy_node, port_of}
 use Rattle.multiportgraph.specs.WellFormed.{copy_place, Fine, Seen, outer, lift, IsEnd, WireIn, SameBlocks, Wiring, subports_of_slot}
-use Rattle.multiportgraph.specs.Ends.{Hangs, port_of_lem, count_of_lem, copy_valid, main_seen, main_back, outer_of_subport, outer_of_block, one_copy, unsplit_no_copy, split_has_copy, ends_join_ends, outer_of_unsplit}
+use Rattle.multiportgraph.specs.RecountLaws.{both_sides}
+use Rattle.multiportgraph.specs.Ends.{Hangs, port_of_lem, count_in_lem, copy_valid, main_seen, main_back, outer_of_subport, outer_of_block, one_copy, unsplit_no_copy, split_has_copy, ends_join_ends, outer_of_unsplit}
 use Rattle.multiportgraph.specs.HiddenStays.{same_wire, outer_kept, true_not_false, AtCopyLink, Frame, frame_fine, Alike, kept_end, wire_kept, kept_wire}
 use Rattle.multiportgraph.specs.LinkCutLaws.{end_is_here, CutDone, cut_end_lem, end_is, touches_neither, touched_not_out, touched_not_into, at_spot_here, at_spot_is}
 use Rattle.multiportgraph.specs.declared.multiportgraph.MultiPortGraph.{MultiPortGraph}
@@ -52,6 +51,97 @@ pub removed_holds : {g : PortGraph} {M : Model} → Good M → Holds g M → (n 
 removed_holds {g} {M} good h n k e =
     subst (λ (r : _). Holds r.graph (remove_model M n k)) (sym (remove_law h n ∙ ap (remove_slots g n) e)) (free_holds good h n k e)
 
+-- A hidden node goes, whatever hung on it: of flags and marks only its own, its copy port's and that of the port named are taken off.
+
+cleared : (l : List Bool) (i : ℕ) → get_or (set l i false) i false ≡ false
+cleared [] i = refl
+cleared (x ∷ l) zero = refl
+cleared (x ∷ l) (suc i) = cleared l i
+
+module _ (m : MultiPortGraph) (p c : ℕ) where
+  abbrev own_port : ℕ
+  own_port = port_of m.graph c (copy_side m c) 0
+
+  pub hidden_gone : is_hidden (remove_copy m p c) c ≡ false
+  unfolding is_hidden remove_copy
+  hidden_gone = cleared m.copy_node c
+
+  pub hidden_other : (n : ℕ) → (n ≡ c → ⊥) → is_hidden (remove_copy m p c) n ≡ is_hidden m n
+  unfolding is_hidden remove_copy
+  hidden_other n other = get_or-set_other m.copy_node c n false false other
+
+  pub hidden_not_copy : (n : ℕ) → is_hidden (remove_copy m p c) n ≡ true → n ≡ c → ⊥
+  hidden_not_copy n t e = true_not_false t (ap (is_hidden (remove_copy m p c)) e ∙ hidden_gone)
+
+  pub still_hidden : (n : ℕ) → is_hidden (remove_copy m p c) n ≡ true → is_hidden m n ≡ true
+  still_hidden n t = sym (hidden_other n (hidden_not_copy n t)) ∙ t
+
+  pub split_other : (s : ℕ) → (s ≡ own_port → ⊥) → (s ≡ p → ⊥) → is_split (remove_copy m p c) s ≡ is_split m s
+  unfolding is_split remove_copy
+  split_other s a b = get_or-set_other (set m.multiport own_port false) p s false false b ∙ get_or-set_other m.multiport own_port s false false a
+
+  pub split_main : is_split (remove_copy m p c) p ≡ false
+  unfolding is_split remove_copy
+  split_main = cleared (set m.multiport own_port false) p
+
+  pub split_copy : is_split (remove_copy m p c) own_port ≡ false
+  unfolding is_split remove_copy
+  split_copy = ⊎_elim
+      (λ e. ap (λ (s : ℕ). get_or (set (set m.multiport own_port false) p false) s false) e ∙ split_main)
+      (λ other. get_or-set_other (set m.multiport own_port false) p own_port false false other ∙ cleared m.multiport own_port)
+      (cases_eq own_port p)
+
+  pub still_split : (s : ℕ) → is_split (remove_copy m p c) s ≡ true → is_split m s ≡ true
+  still_split s t =
+      sym (split_other s (λ e. true_not_false t (ap (is_split (remove_copy m p c)) e ∙ split_copy)) (λ e. true_not_false t (ap (is_split (remove_copy m p c)) e ∙ split_main)))
+      ∙ t
+
+  pub marks_left : length (remove_copy m p c).multiport ≡ length m.multiport
+  unfolding remove_copy
+  marks_left = length-set (set m.multiport own_port false) p false ∙ length-set m.multiport own_port false
+
+  pub flags_left : length (remove_copy m p c).copy_node ≡ length m.copy_node
+  unfolding remove_copy
+  flags_left = length-set m.copy_node c false
+
+-- Other nodes of the model stay, and so do the links between them.
+module _ (M : Model) (c : ℕ) (k : NodeMeta) where
+  pub node_other : (n : ℕ) → (n ≡ c → ⊥) → (remove_model M c k).node n ≡ M.node n
+  node_other n other = upd_other M.node c gone n other
+
+  pub join_other : (z u : model.InnerPlace) → M.join z ≡ to u → (z.node ≡ c → ⊥) → (u.node ≡ c → ⊥) → (remove_model M c k).join z ≡ to u
+  join_other z u j a b = drop_kept (at_node c) M.join z u j (ne_eqb z.node c a) (ne_eqb u.node c b)
+
+  pub join_was : (z u : model.InnerPlace) → (remove_model M c k).join z ≡ to u → (M.join z ≡ to u) × (z.node ≡ c → ⊥) × (u.node ≡ c → ⊥)
+  join_was z u j = let t = drop_joined (at_node c) M.join z u j in (t.0, eqb-false z.node c t.1, eqb-false u.node c t.2)
+
+module _ (m : MultiPortGraph) {M : Model} (good : Good M) (holds : Holds m.graph M) (p c : ℕ) (k : NodeMeta) (here : M.node c ≡ live k) where
+  pub holds_left : Holds (remove_copy m p c).graph (remove_model M c k)
+  unfolding remove_copy
+  holds_left = removed_holds good holds c k here
+
+  -- the counts of hidden nodes and of subports
+  pub copies_left : is_hidden m c ≡ true → m.copy_node_count ≡ total node_slots (λ n. flag (is_hidden m n))
+      → (remove_copy m p c).copy_node_count ≡ total node_slots (λ n. flag (is_hidden (remove_copy m p c) n))
+  unfolding remove_copy
+  copies_left hc e =
+      let t = total_one node_slots c (λ n. flag (is_hidden m n)) (λ n. flag (is_hidden (remove_copy m p c) n)) (node_below good c k here) (λ n l other. ap flag (sym (hidden_other m p c n other))) in
+      let a : flag (is_hidden m c) ≡ 1 = ap flag hc in
+      let b : flag (is_hidden (remove_copy m p c) c) ≡ 0 = ap flag (hidden_gone m p c) in
+      omega arith
+
+  pub subs_left : is_hidden m c ≡ true → ports_on k (copy_side m c) ≡ 1 → m.subport_count ≡ total node_slots (subports_of_slot m M)
+      → (remove_copy m p c).subport_count ≡ total node_slots (subports_of_slot (remove_copy m p c) (remove_model M c k))
+  unfolding remove_copy
+  subs_left hc single e =
+      let t = total_one node_slots c (subports_of_slot m M) (subports_of_slot (remove_copy m p c) (remove_model M c k)) (node_below good c k here)
+      (λ n l other. sym (ap (λ (b : Bool). cond b (ports_of ((remove_model M c k).node n) - 1) 0) (hidden_other m p c n other) ∙ ap (λ (s : Slots). cond (is_hidden m n) (ports_of s - 1) 0) (node_other M c k n other))) in
+      let a : subports_of_slot m M c ≡ k.incoming + k.outgoing - 1 = ap (λ (b : Bool). cond b (ports_of (M.node c) - 1) 0) hc ∙ ap (λ (s : Slots). ports_of s - 1) here in
+      let b : subports_of_slot (remove_copy m p c) (remove_model M c k) c ≡ 0 = ap (λ (b : Bool). cond b (ports_of ((remove_model M c k).node c) - 1) 0) (hidden_gone m p c) in
+      let s = both_sides k (copy_side m c) in
+      let q : num_ports m.graph c (reversed (copy_side m c)) ≡ ports_on k (reversed (copy_side m c)) = count_in_lem good holds c (reversed (copy_side m c)) ∙ ap (λ (s : Slots). count_of s (reversed (copy_side m c))) here in
+      omega arith
+
 module _ {m : MultiPortGraph} {M : Model} (f : Fine m M) (x : model.InnerPlace) (c : ℕ) (hc : is_hidden m c ≡ true) (from : M.join (copy_place m c) ≡ to x) where
   abbrev without_copy : MultiPortGraph
   without_copy = remove_copy m (slot_of M.node x) c
@@ -71,68 +161,8 @@ module _ {m : MultiPortGraph} {M : Model} (f : Fine m M) (x : model.InnerPlace) 
   copy_slot : port_of m.graph c (copy_side m c) 0 ≡ slot_of M.node (copy_place m c)
   copy_slot = port_of_lem f c (copy_side m c) 0 (copy_valid f c hc)
 
-  -- Marks and flags afterwards.
-
-  split_other : (s : ℕ) → (s ≡ slot_of M.node (copy_place m c) → ⊥) → (s ≡ slot_of M.node x → ⊥) → is_split without_copy s ≡ is_split m s
-  unfolding is_split remove_copy
-  split_other s a b =
-      get_or-set_other (set m.multiport (port_of m.graph c (copy_side m c) 0) false) (slot_of M.node x) s false false b
-      ∙ get_or-set_other m.multiport (port_of m.graph c (copy_side m c) 0) s false false (λ e. a (e ∙ copy_slot))
-
-  split_main : is_split without_copy (slot_of M.node x) ≡ false
-  unfolding is_split remove_copy
-  split_main =
-      get_or-set_same (set m.multiport (port_of m.graph c (copy_side m c) 0) false) (slot_of M.node x) false false
-      (let l : length (set m.multiport (port_of m.graph c (copy_side m c) 0) false) ≡ length m.multiport = length-set m.multiport (port_of m.graph c (copy_side m c) 0) false in
-      let n : length m.multiport ≡ port_slots = f.marks_long in
-      let r = slot_in_range f.good x x_seen.0 in
-      omega arith)
-
-  apart_slots : slot_of M.node (copy_place m c) ≡ slot_of M.node x → ⊥
-  apart_slots e = x_not_copy (ap (λ (z : model.InnerPlace). z.node) (sym (slots_apart f.good (copy_place m c) x (copy_valid f c hc) x_seen.0 e)))
-
-  split_copy : is_split without_copy (slot_of M.node (copy_place m c)) ≡ false
-  unfolding is_split remove_copy
-  split_copy =
-      get_or-set_other (set m.multiport (port_of m.graph c (copy_side m c) 0) false) (slot_of M.node x) (slot_of M.node (copy_place m c)) false false apart_slots
-      ∙ (ap (λ (i : ℕ). get_or (set m.multiport i false) (slot_of M.node (copy_place m c)) false) copy_slot
-      ∙ get_or-set_same m.multiport (slot_of M.node (copy_place m c)) false false
-      (let n : length m.multiport ≡ port_slots = f.marks_long in
-      let r = slot_in_range f.good (copy_place m c) (copy_valid f c hc) in
-      omega arith))
-
-  split_not_copy : (s : ℕ) → is_split without_copy s ≡ true → s ≡ slot_of M.node (copy_place m c) → ⊥
-  split_not_copy s t e = true_not_false t (ap (is_split without_copy) e ∙ split_copy)
-
-  split_not_main : (s : ℕ) → is_split without_copy s ≡ true → s ≡ slot_of M.node x → ⊥
-  split_not_main s t e = true_not_false t (ap (is_split without_copy) e ∙ split_main)
-
-  still_split : (s : ℕ) → is_split without_copy s ≡ true → is_split m s ≡ true
-  still_split s t = sym (split_other s (split_not_copy s t) (split_not_main s t)) ∙ t
-
-  pub hidden_other : (n : ℕ) → (n ≡ c → ⊥) → is_hidden without_copy n ≡ is_hidden m n
-  unfolding is_hidden remove_copy
-  hidden_other n other = get_or-set_other m.copy_node c n false false other
-
-  copy_below : c < node_slots
-  copy_below = node_below f.good c k (f.copy c hc).here
-
-  hidden_gone : is_hidden without_copy c ≡ false
-  unfolding is_hidden remove_copy
-  hidden_gone = get_or-set_same m.copy_node c false false (let l : length m.copy_node ≡ node_slots = f.flags_long in let b = copy_below in omega arith)
-
-  hidden_not_copy : (n : ℕ) → is_hidden without_copy n ≡ true → n ≡ c → ⊥
-  hidden_not_copy n t e = true_not_false t (ap (is_hidden without_copy) e ∙ hidden_gone)
-
-  still_hidden : (n : ℕ) → is_hidden without_copy n ≡ true → is_hidden m n ≡ true
-  still_hidden n t = sym (hidden_other n (hidden_not_copy n t)) ∙ t
-
-  pub node_other : (n : ℕ) → (n ≡ c → ⊥) → model_after.node n ≡ M.node n
-  node_other n other = upd_other M.node c gone n other
-
-  -- links away from the hidden node stay
-  join_other : (z u : model.InnerPlace) → M.join z ≡ to u → (z.node ≡ c → ⊥) → (u.node ≡ c → ⊥) → model_after.join z ≡ to u
-  join_other z u j a b = drop_kept (at_node c) M.join z u j (ne_eqb z.node c a) (ne_eqb u.node c b)
+  apart_split : (s : ℕ) → (s ≡ slot_of M.node (copy_place m c) → ⊥) → (s ≡ slot_of M.node x → ⊥) → is_split without_copy s ≡ is_split m s
+  apart_split s a = split_other m (slot_of M.node x) c s (λ e. a (e ∙ copy_slot))
 
   main_not_copy : (e : ℕ) (z : model.InnerPlace) → is_hidden m e ≡ true → M.join (copy_place m e) ≡ to z → z.node ≡ c → ⊥
   main_not_copy e z h j q = true_not_false hc (ap (is_hidden m) (sym q) ∙ (main_seen f e z h j).1)
@@ -155,79 +185,45 @@ module _ {m : MultiPortGraph} {M : Model} (f : Fine m M) (x : model.InnerPlace) 
   link_marked e s h (inr r) = subst (λ (t : ℕ). is_split m t ≡ true) r.2 (f.main_marked e r.0 h r.1)
 
   own_link_unmarked : (s : ℕ) → AtCopyLink m M c s → is_split without_copy s ≡ false
-  own_link_unmarked s (inl q) = ap (is_split without_copy) (sym q) ∙ split_copy
+  own_link_unmarked s (inl q) = ap (is_split without_copy) (sym (copy_slot ∙ q)) ∙ split_copy m (slot_of M.node x) c
   own_link_unmarked s (inr r) =
       let j = r.1 in
       let e : r.0 ≡ x = cc in
-      ap (is_split without_copy) (sym r.2) ∙ (ap (λ (z : model.InnerPlace). is_split without_copy (slot_of M.node z)) e ∙ split_main)
+      ap (is_split without_copy) (sym r.2) ∙ (ap (λ (z : model.InnerPlace). is_split without_copy (slot_of M.node z)) e ∙ split_main m (slot_of M.node x) c)
 
   stays : (e s : ℕ) → is_hidden m e ≡ true → is_split without_copy s ≡ true → AtCopyLink m M e s → is_hidden without_copy e ≡ true
   stays e s h t a =
-      ⊎_elim (λ q. absurd (true_not_false t (own_link_unmarked s (subst (λ (n : ℕ). AtCopyLink m M n s) q a)))) (λ other. hidden_other e other ∙ h) (cases_eq e c)
-
-  copies_after : without_copy.copy_node_count ≡ total node_slots (λ n. flag (is_hidden without_copy n))
-  unfolding remove_copy
-  copies_after =
-      let t = total_one node_slots c (λ n. flag (is_hidden m n)) (λ n. flag (is_hidden without_copy n)) copy_below (λ n l other. ap flag (sym (hidden_other n other))) in
-      let a : flag (is_hidden m c) ≡ 1 = ap flag hc in
-      let b : flag (is_hidden without_copy c) ≡ 0 = ap flag hidden_gone in
-      let e = f.copies in
-      omega arith
-
-  ports_of_lem : (d : Direction) → ports_on k d ≡ 1 → k.incoming + k.outgoing - 1 ≡ ports_on k (reversed d)
-  ports_of_lem Incoming e = omega arith
-  ports_of_lem Outgoing e = omega arith
-
-  subs_after : without_copy.subport_count ≡ total node_slots (subports_of_slot without_copy model_after)
-  unfolding remove_copy
-  subs_after =
-      let t = total_one node_slots c (subports_of_slot m M) (subports_of_slot without_copy model_after) copy_below
-      (λ n l other. sym (ap (λ (b : Bool). cond b (ports_of (model_after.node n) - 1) 0) (hidden_other n other) ∙ ap (λ (s : Slots). cond (is_hidden m n) (ports_of s - 1) 0) (node_other n other))) in
-      let a : subports_of_slot m M c ≡ k.incoming + k.outgoing - 1 = ap (λ (b : Bool). cond b (ports_of (M.node c) - 1) 0) hc ∙ ap (λ (s : Slots). ports_of s - 1) (f.copy c hc).here in
-      let b : subports_of_slot without_copy model_after c ≡ 0 = ap (λ (b : Bool). cond b (ports_of (model_after.node c) - 1) 0) hidden_gone in
-      let p : k.incoming + k.outgoing - 1 ≡ ports_on k (reversed (copy_side m c)) = ports_of_lem (copy_side m c) (f.copy c hc).single in
-      let q : num_ports m.graph c (reversed (copy_side m c)) ≡ ports_on k (reversed (copy_side m c)) = count_of_lem f c (reversed (copy_side m c)) ∙ ap (λ (s : Slots). count_of s (reversed (copy_side m c))) (f.copy c hc).here in
-      let e = f.subs in
-      omega arith
+      ⊎_elim (λ q. absurd (true_not_false t (own_link_unmarked s (subst (λ (n : ℕ). AtCopyLink m M n s) q a)))) (λ other. hidden_other m (slot_of M.node x) c e other ∙ h) (cases_eq e c)
 
   pub copy_frame : Frame m M without_copy model_after
-  unfolding remove_copy
   copy_frame =
+      let i = f.copy c hc in
       record {
-        good = good_remove f.good c k (f.copy c hc).here;
-        holds = holds;
-        marks_long = marks;
-        flags_long = flags;
-        hid = still_hidden;
-        node = λ e h. node_other e (hidden_not_copy e h);
-        main = λ e z h j. node_other z.node (main_not_copy e z (still_hidden e h) j);
+        good = good_remove f.good c k i.here;
+        holds = holds_left m f.good f.holds (slot_of M.node x) c k i.here;
+        marks_long = marks_left m (slot_of M.node x) c ∙ f.marks_long;
+        flags_long = flags_left m (slot_of M.node x) c ∙ f.flags_long;
+        hid = still_hidden m (slot_of M.node x) c;
+        node = λ e h. node_other M c k e (hidden_not_copy m (slot_of M.node x) c e h);
+        main = λ e z h j. node_other M c k z.node (main_not_copy e z (still_hidden m (slot_of M.node x) c e h) j);
         join = λ e h.
-            let i = f.copy e (still_hidden e h) in
-            join_other (copy_place m e) i.main i.joined (hidden_not_copy e h) (main_not_copy e i.main (still_hidden e h) i.joined) ∙ sym i.joined;
+            let i = f.copy e (still_hidden m (slot_of M.node x) c e h) in
+            join_other M c k (copy_place m e) i.main i.joined (hidden_not_copy m (slot_of M.node x) c e h) (main_not_copy e i.main (still_hidden m (slot_of M.node x) c e h) i.joined) ∙ sym i.joined;
         marked = λ e s h a.
-            let n = other_link e s (still_hidden e h) (hidden_not_copy e h) a in
-            split_other s n.0 n.1 ∙ link_marked e s (still_hidden e h) a;
-        only = still_split;
+            let n = other_link e s (still_hidden m (slot_of M.node x) c e h) (hidden_not_copy m (slot_of M.node x) c e h) a in
+            apart_split s n.0 n.1 ∙ link_marked e s (still_hidden m (slot_of M.node x) c e h) a;
+        only = still_split m (slot_of M.node x) c;
         stays = stays;
-        copies = copies_after;
-        subs = subs_after;
+        copies = copies_left m f.good f.holds (slot_of M.node x) c k i.here hc f.copies;
+        subs = subs_left m f.good f.holds (slot_of M.node x) c k i.here hc i.single f.subs;
       }
-    where
-      holds : Holds without_copy.graph model_after
-      holds = removed_holds f.good f.holds c k (f.copy c hc).here
-
-      marks : length without_copy.multiport ≡ port_slots
-      marks = length-set (set m.multiport (port_of m.graph c (copy_side m c) 0) false) (slot_of M.node x) false ∙ (length-set m.multiport (port_of m.graph c (copy_side m c) 0) false ∙ f.marks_long)
-
-      flags : length without_copy.copy_node ≡ node_slots
-      flags = length-set m.copy_node c false ∙ f.flags_long
 
   -- Blocks and wires.
 
   copy_blocks : SameBlocks m M without_copy model_after
   copy_blocks = (
-    (λ n l b. let other : n ≡ c → ⊥ = λ q. true_not_false hc (ap (is_hidden m) (sym q) ∙ b.0) in (hidden_other n other ∙ b.0, node_other n other ∙ b.1)),
-    λ n l b. let other : n ≡ c → ⊥ = λ q. gone_not_live (ap model_after.node q ∙ upd_same M.node c gone) b.1 in (sym (hidden_other n other) ∙ b.0, sym (node_other n other) ∙ b.1),
+    (λ n l b. let other : n ≡ c → ⊥ = λ q. true_not_false hc (ap (is_hidden m) (sym q) ∙ b.0) in (hidden_other m (slot_of M.node x) c n other ∙ b.0, node_other M c k n other ∙ b.1)),
+    λ n l b. let other : n ≡ c → ⊥ = λ q. gone_not_live (ap model_after.node q ∙ upd_same M.node c gone) b.1 in (sym (hidden_other m (slot_of M.node x) c n other) ∙ b.0, sym (node_other M c k n other) ∙ b.1),
   )
 
   -- the ends of that port are the hidden node's
@@ -255,10 +251,10 @@ module _ {m : MultiPortGraph} {M : Model} (f : Fine m M) (x : model.InnerPlace) 
   pub copy_alike : (z : model.InnerPlace) → Valid M.node z → (z.node ≡ c → ⊥) → (z ≡ x → ⊥) → Alike m M without_copy model_after z
   copy_alike z v other away =
       record {
-        node = node_other z.node other;
-        hidden = hidden_other z.node other;
+        node = node_other M c k z.node other;
+        hidden = hidden_other m (slot_of M.node x) c z.node other;
         split = λ h.
-            split_other (slot_of M.node z)
+            apart_split (slot_of M.node z)
             (λ q. other (ap (λ (y : model.InnerPlace). y.node) (slots_apart f.good z (copy_place m c) v (copy_valid f c hc) q)))
             (λ q. away (slots_apart f.good z x v x_seen.0 q));
       }
@@ -270,21 +266,21 @@ module _ {m : MultiPortGraph} {M : Model} (f : Fine m M) (x : model.InnerPlace) 
       kept w e n =
           let a : e.x.node ≡ c → ⊥ = λ q. true_not_false (end_of_copy e.x q) (ap (port_at x) (sym (ap (λ (v : Wire). v.out) e.is)) ∙ touched_not_out (port_at x) w n) in
           let b : e.y.node ≡ c → ⊥ = λ q. true_not_false (end_of_copy e.y q) (ap (port_at x) (sym (ap (λ (v : Wire). v.into) e.is)) ∙ touched_not_into (port_at x) w n) in
-          wire_kept f copy_frame w e (join_other e.x e.y e.joined a b)
+          wire_kept f copy_frame w e (join_other M c k e.x e.y e.joined a b)
           (copy_alike e.x e.end.valid a (λ q. b (ap (λ (y : model.InnerPlace). y.node) (to_same e.joined (ap M.join q ∙ main_back f c x from)))))
-          (hidden_other e.y.node b)
+          (hidden_other m (slot_of M.node x) c e.y.node b)
 
       only : (w : Wire) → WireIn without_copy model_after w → WireIn m M w × (touches (port_at x) w ≡ false)
       only w e =
-          let j = drop_joined (at_node c) M.join e.x e.y e.joined in
-          let a : e.x.node ≡ c → ⊥ = eqb-false e.x.node c j.1 in
-          let b : e.y.node ≡ c → ⊥ = eqb-false e.y.node c j.2 in
+          let j = join_was M c k e.x e.y e.joined in
+          let a = j.1 in
+          let b = j.2 in
           let l : Alike m M without_copy model_after e.x =
           copy_alike e.x (f.good.join_valid e.x e.y j.0) a (λ q. b (ap (λ (y : model.InnerPlace). y.node) (to_same j.0 (ap M.join q ∙ main_back f c x from)))) in
-          let v : WireIn m M w = kept_wire f copy_frame w e j.0 l (hidden_other e.y.node b) in
+          let v : WireIn m M w = kept_wire f copy_frame w e j.0 l (hidden_other m (slot_of M.node x) c e.y.node b) in
           let ez : IsEnd m M e.x = kept_end f copy_frame e.x l e.end in (
             v,
-            ap (touches (port_at x)) (e.is ∙ same_wire (outer_kept f copy_frame e.x l.hidden) (outer_kept f copy_frame e.y (hidden_other e.y.node b)))
+            ap (touches (port_at x)) (e.is ∙ same_wire (outer_kept f copy_frame e.x l.hidden) (outer_kept f copy_frame e.y (hidden_other m (slot_of M.node x) c e.y.node b)))
                 ∙ touches_neither (port_at x) _ (end_elsewhere e.x ez a) (end_elsewhere e.y (ends_join_ends f e.x e.y ez j.0) b),
           )
 
@@ -302,19 +298,19 @@ pub record CopyGone (m : MultiPortGraph) (M : Model) (x : model.InnerPlace) (m' 
 pub copy_goes : {m : MultiPortGraph} {M : Model} (f : Fine m M) (x : model.InnerPlace) (h : Hangs m M x)
     → CopyGone m M x (remove_copy m (slot_of M.node x) h.copy) (remove_model M h.copy (f.copy h.copy h.is_copy).meta)
 copy_goes {m} {M} f x h =
-    let n : (remove_model M h.copy (f.copy h.copy h.is_copy).meta).node x.node ≡ M.node x.node = node_other f x h.copy h.is_copy h.from x.node (x_not_copy f x h.copy h.is_copy h.from) in
+    let n : (remove_model M h.copy (f.copy h.copy h.is_copy).meta).node x.node ≡ M.node x.node = node_other M h.copy (f.copy h.copy h.is_copy).meta x.node (x_not_copy f x h.copy h.is_copy h.from) in
     record {
       fine = frame_fine f (copy_frame f x h.copy h.is_copy h.from);
       blocks = copy_blocks f x h.copy h.is_copy h.from;
       wires = copy_wires f x h.copy h.is_copy h.from;
       is_seen = (
         subst (λ (s : Slots). x.pos < count_of s x.side) (sym n) (x_seen f x h.copy h.is_copy h.from).0,
-        hidden_other f x h.copy h.is_copy h.from x.node (x_not_copy f x h.copy h.is_copy h.from) ∙ (x_seen f x h.copy h.is_copy h.from).1,
+        hidden_other m (slot_of M.node x) h.copy x.node (x_not_copy f x h.copy h.is_copy h.from) ∙ (x_seen f x h.copy h.is_copy h.from).1,
       );
       slot = ap (λ (s : Slots). model.first_of s + (model.side_start s x.side + x.pos)) n;
-      unsplit = split_main f x h.copy h.is_copy h.from;
+      unsplit = split_main m (slot_of M.node x) h.copy;
       free = drop_there (at_node h.copy) M.join x (copy_place m h.copy) h.back (eq-eqb h.copy h.copy refl);
-      only_split = still_split f x h.copy h.is_copy h.from;
+      only_split = still_split m (slot_of M.node x) h.copy;
     }
 
 -- A port loses its hidden node, if it has one.

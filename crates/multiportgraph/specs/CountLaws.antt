@@ -1,5 +1,6 @@
 -- The counts of a graph of the calls: blocks, ports of blocks and wires, as many as are listed. And what never happens: a split
 -- port without its one hidden node, a hidden node without its one split port, a wire at a hidden node.
+use Rattle.std.proofs.lemmas.List.{length-map}
 use Rattle.std.specs.Prelude.{◌≡◌, Bool, ◌⊎◌}
 use Rattle.std.proofs.Math.Path.{refl, ap, subst}
 use Rattle.std.proofs.Common.{sym, ◌∙◌}
@@ -10,7 +11,7 @@ use Prim.Native.Nat.{ℕ, zero, suc, ◌+◌, ◌-◌, ◌≤◌, ◌<◌}
 use native.Mathlib.Omega.{arith}
 use Rattle.std.proofs.Math.ListN.{length, length-append}
 use Rattle.port_tables.specs.Limits.{node_slots}
-use Rattle.port_tables.specs.Lists.{range, Once, Member, Rising}
+use Rattle.port_tables.specs.Lists.{range, Member, Rising}
 use Rattle.std.specs.List.{filter}
 use Rattle.port_tables.specs.Entries.{reversed, ports_on}
 use Rattle.portgraph.specs.Lookups.{num_ports, contains_node, is_some}
@@ -28,7 +29,7 @@ use Rattle.multiportgraph.specs.Wires.{is_block, blocks, ports_of_side, all_wire
 use Rattle.multiportgraph.specs.Walks.{ports_by_block}
 use Rattle.multiportgraph.specs.WellFormed.{copy_place, Fine, Seen, outer, IsEnd, WireIn, subports_of_slot}
 use Rattle.multiportgraph.specs.Ends.{split_has_copy, one_copy, unsplit_no_copy, copy_or_end, outer_seen, outer_apart, ends_join_ends, main_seen, main_side, main_back, count_of_lem, wires_by_out}
-use Rattle.port_tables.specs.Listing.{Apart, member_left, member_right, member_append, member_filter, filter_member, member_flat_map, flat_map_member, member_map, map_member, length_map, range_member, filter_all, rising_append, rising_filter, rising_flat_map, rising_map, range_rises, length_range, partners}
+use Rattle.port_tables.specs.Listing.{Apart, once_apart, member_left, member_right, member_append, member_filter, filter_member, member_flat_map, flat_map_member, member_map, map_member, range_member, filter_all, rising_append, rising_filter, rising_flat_map, rising_map, range_rises, length_range, partners}
 use Rattle.multiportgraph.specs.WalkRule.{listed_is_wire, wire_is_listed, listed_once}
 use Rattle.multiportgraph.specs.declared.multiportgraph.MultiPortGraph.{MultiPortGraph}
 use Rattle.port_tables.specs.Places.{Place, Wire, flag}
@@ -82,10 +83,6 @@ counted t n = ap length (sym (flat_map_single (filter t (range 0 n)))) ∙ (gath
     go true = refl
     go false = refl
 
-once_apart : (l : List Wire) → Once l → Rising Apart l
-once_apart [] o = tt
-once_apart (w ∷ l) o = ((λ v i e. o.0 (subst (λ u. Member u l) (sym e) i)), once_apart l o.1)
-
 -- Linked outgoing places.
 
 abbrev joined : Far → Bool
@@ -119,7 +116,7 @@ module _ (M : Model) where
 
       here : (n : ℕ) → length (at n) ≡ links_out M.node M.join n
       here n =
-          length_map (out_place n) (linked_at M n)
+          length-map (linked_at M n) (out_place n)
           ∙ (counted (λ i. joined (M.join (out_place n i))) (count_of (M.node n) Outgoing)
           ∙ total_same (count_of (M.node n) Outgoing) (λ i. flag (joined (M.join (out_place n i)))) (λ i. is_linked (M.join (out_place n i))) (λ i l. one (M.join (out_place n i))))
 
@@ -198,7 +195,7 @@ module _ {m : MultiPortGraph} {M : Model} (f : Fine m M) where
 
   length_ports : (n : ℕ) (d : Direction) → length (ports_of_side m d n) ≡ count_of (M.node n) d
   unfolding ports_of_side
-  length_ports n d = length_map (port_of m.graph n d) (range 0 (num_ports m.graph n d)) ∙ (length_range 0 (num_ports m.graph n d) ∙ count_of_lem f n d)
+  length_ports n d = length-map (range 0 (num_ports m.graph n d)) (port_of m.graph n d) ∙ (length_range 0 (num_ports m.graph n d) ∙ count_of_lem f n d)
 
   length_both : (n : ℕ) → length (ports_of_side m Incoming n ++ ports_of_side m Outgoing n) ≡ ports_of (M.node n)
   length_both n =
@@ -394,9 +391,9 @@ module _ {m : MultiPortGraph} {M : Model} (f : Fine m M) where
       let a = partners (CountsFor m M) counts_once (linked_places M) (wires_and_copies m) (linked_apart M) linked_counts in
       let b = partners (λ y x. CountsFor m M x y) (λ y z x. counts_for_one y z x) (wires_and_copies m) (linked_places M) counted_apart counted_linked in
       let c = length-append (map {B = Wire ⊎ ℕ} inl (map (wire_places m) (all_wires m))) (map inr (filter (is_hidden m) (range 0 node_slots))) in
-      let d = length_map {B = Wire ⊎ ℕ} inl (map (wire_places m) (all_wires m)) in
-      let e = length_map (wire_places m) (all_wires m) in
-      let g = length_map {B = Wire ⊎ ℕ} inr (filter (is_hidden m) (range 0 node_slots)) in
+      let d = length-map {B = Wire ⊎ ℕ} (map (wire_places m) (all_wires m)) inl in
+      let e = length-map (all_wires m) (wire_places m) in
+      let g = length-map {B = Wire ⊎ ℕ} (filter (is_hidden m) (range 0 node_slots)) inr in
       omega arith
 
   -- the number of visible links is that of the wires listed

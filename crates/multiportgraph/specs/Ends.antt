@@ -1,7 +1,8 @@
 -- How port numbers and subports of a graph of the calls read as places: lookups at the slot of a place, ports of blocks and of
 -- hidden nodes, and the ends that hang on a port. Wires are told apart by their ends.
+use Rattle.std.proofs.Math.ListN.{length}
 use Rattle.std.proofs.lemmas.Bool.{cases_Bool}
-use Rattle.std.specs.Prelude.{◌≡◌, Bool, ◌⊎◌, ℕ, zero, suc, ◌+◌, ◌-◌, ◌≤◌, ◌<◌}
+use Rattle.std.specs.Prelude.{◌≡◌, Bool, ◌⊎◌, ℕ, zero, suc, ◌+◌, ◌-◌, ◌≤◌, ◌<◌, Option}
 use Rattle.std.proofs.Math.Path.{refl, ap, subst}
 use Rattle.std.proofs.Common.{sym, ◌∙◌, inl, inr}
 use Rattle.std.proofs.Math.Bool.{true, false, cond}
@@ -10,13 +11,14 @@ use Rattle.std.proofs.Math.Logic.{⊎_elim}
 use native.Mathlib.Omega.{arith}
 use Rattle.std.proofs.Math.Dec.{ltb}
 use borrow.Author.Tests.{ltb-true, ltb-false, lt-ltb, le-ltb, ne_eqb}
+use Rattle.port_tables.specs.Limits.{port_slots}
 use Rattle.port_tables.specs.Lists.{range}
 use Rattle.std.specs.List.{filter}
 use Rattle.port_tables.specs.Entries.{reversed, ports_on, node_of}
 use Rattle.portgraph.specs.Lookups.{num_ports, count_in}
 use Rattle.portgraph.specs.Model as model
-use Rattle.portgraph.specs.Model.{Model, nowhere, to, Slots, gone, live, Valid, slot_of, count_of, first_of, side_start, Vacant}
-use Rattle.portgraph.specs.GoodSlots.{zero_is_not_one, same_place_lem, slots_apart, slot_in_block, joined_is_valid}
+use Rattle.portgraph.specs.Model.{Model, nowhere, to, Slots, gone, live, Good, Holds, Valid, slot_of, count_of, first_of, side_start, Vacant}
+use Rattle.portgraph.specs.GoodSlots.{zero_is_not_one, same_place_lem, slots_apart, slot_in_range, slot_in_block, joined_is_valid}
 use Rattle.portgraph.specs.PlaceLaws.{port_of_place, slot_cases, vacant_is_dead, port_link_to, port_link_none, port_index_is, port_offset_is, meta_of_node, gone_has_no_meta}
 use Rattle.port_tables.specs.declared.direction.Direction.{Direction}
 use Rattle.port_tables.specs.declared.direction.Direction.TheVariants.{Incoming, Outgoing}
@@ -26,10 +28,23 @@ use Rattle.multiportgraph.specs.Reading.{side_of, link_number, is_linked, far_po
 use Rattle.multi_tables.specs.Forms.{node_number, dead, hidden, visible, inner, lacking, subport#}
 use Rattle.multiportgraph.specs.Wires.{ports_of_side, subports_of_port, subports_of_side, place_of, is_first, ports_walked}
 use Rattle.multiportgraph.specs.WellFormed.{inner#, copy_place, Marked, copy_port, main_port_lem, Fine, BlockIs, Seen, lift, outer, IsEnd, WireIn, SameBlocks}
+use Rattle.portgraph.specs.declared.portgraph.PortGraph.{PortGraph}
 use Rattle.multiportgraph.specs.declared.multiportgraph.MultiPortGraph.{MultiPortGraph}
 use Rattle.multi_tables.specs.declared.answers.SubportIndex.{SubportIndex}
 use Rattle.port_tables.specs.Places.{Place, Wire, wire_of_sides}
 use Rattle.std.proofs.lemmas.List.Elements.{filter-append}
+
+-- the slot of a place lies in the table of marks
+pub mark_below : (m : MultiPortGraph) {M : Model} → length m.multiport ≡ port_slots → Good M → (z : model.InnerPlace) → Valid M.node z → slot_of M.node z < length m.multiport
+mark_below m long g z v = rw long (slot_in_range g z v)
+
+-- the counts of a node in the single-link graph
+pub count_in_lem : {g : PortGraph} {M : Model} → Good M → Holds g M → (n : ℕ) (d : Direction) → num_ports g n d ≡ count_of (M.node n) d
+count_in_lem {g} {M} good holds n d = go (M.node n) refl
+  where
+    go : (v : Slots) → M.node n ≡ v → num_ports g n d ≡ count_of v d
+    go gone e = ap (λ (k : Option NodeMeta). count_in k d) (gone_has_no_meta good holds n e)
+    go (live k) e = ap (λ (k : Option NodeMeta). count_in k d) (meta_of_node good holds n k e)
 
 -- a port of a block, by its number
 pub record BlockPort (m : MultiPortGraph) (M : Model) (p n : ℕ) (d : Direction) : Type 0 where
@@ -164,11 +179,7 @@ module _ {m : MultiPortGraph} {M : Model} (f : Fine m M) where
   port_of_lem n d i h = ap port_number (port_index_is f.good f.holds (inner# n d i) h)
 
   pub count_of_lem : (n : ℕ) (d : Direction) → num_ports m.graph n d ≡ count_of (M.node n) d
-  count_of_lem n d = go (M.node n) refl
-    where
-      go : (v : Slots) → M.node n ≡ v → num_ports m.graph n d ≡ count_of v d
-      go gone e = ap (λ k. count_in k d) (gone_has_no_meta f.good f.holds n e)
-      go (live k) e = ap (λ k. count_in k d) (meta_of_node f.good f.holds n k e)
+  count_of_lem = count_in_lem f.good f.holds
 
   -- Ports of blocks, of hidden nodes, and none.
 

@@ -1,7 +1,7 @@
 -- What other counts of a hidden node do to the tables: the copy port's mark moves with it. What one more subport does: the new port
 -- follows the others.
 use Rattle.std.proofs.lemmas.Bool.{cases_eq}
-use Rattle.std.specs.Prelude.{◌≡◌, refl, Bool, ℕ, ◌+◌, ◌<◌, length, set, Ok}
+use Rattle.std.specs.Prelude.{◌≡◌, refl, Bool, ℕ, ◌+◌, ◌<◌, set, Ok}
 use Rattle.std.proofs.Math.Path.{sym, ap, transport}
 use Rattle.std.proofs.Common.{◌∙◌, length-set, get_or-set_same, get_or-set_other, lt-length-set}
 use Rattle.std.proofs.Math.Bool.{true, false}
@@ -22,7 +22,7 @@ use Rattle.portgraph.specs.declared.portgraph.PortGraph.{PortGraph}
 use Rattle.portgraph.specs.declared.resize.PortsSet.{PortsSet}
 use Rattle.multiportgraph.specs.Reading.{is_hidden, is_split, copy_side, copy_node, port_of}
 use Rattle.multiportgraph.specs.WellFormed.{inner#, copy_place, Fine, Marked, copy_port, main_port_lem, Seen}
-use Rattle.multiportgraph.specs.Ends.{Hangs, copy_valid, copy_count, count_of_lem, main_seen, block_seen, split_has_copy}
+use Rattle.multiportgraph.specs.Ends.{Hangs, mark_below, copy_valid, copy_count, count_of_lem, main_seen, block_seen, split_has_copy}
 use Rattle.multiportgraph.specs.RecountLaws.{Recount, WasMarked, marked_place, marks_long_lem, other_slot, other_count, recount_marks, marked_was, set_recounts, growth#, valid_kept, joins_same, grown_fine, fresh_slot, more_longer}
 use Rattle.multi_tables.specs.TableReads.{far_in, last_beside, grown_incoming, grown_outgoing}
 use Rattle.multiportgraph.specs.TableReadLaws.{far_is}
@@ -52,12 +52,6 @@ module _ {m : MultiPortGraph} {M : Model} (f : Fine m M) (x : model.InnerPlace) 
 
   valid_cp : Valid M.node cp
   valid_cp = copy_valid f h.copy h.is_copy
-
-  below : slot_of M.node cp < length m.multiport
-  below = rw f.marks_long (slot_in_range f.good cp valid_cp)
-
-  below' : slot_of M'.node cp < length m.multiport
-  below' = rw f.marks_long (slot_in_range r.good cp valid-cp')
 
   -- a marked slot after: the copy port's, or one that was marked and is another node's
   marked_after : (s : ℕ) → (s ≡ slot_of M'.node cp → ⊥) → is_split (recounted m h.copy g') s ≡ true → (is_split m s ≡ true) × (s ≡ slot_of M.node cp → ⊥)
@@ -97,13 +91,13 @@ module _ {m : MultiPortGraph} {M : Model} (f : Fine m M) (x : model.InnerPlace) 
       new s e =
           rw e
           (recount_marks f r cp valid_cp valid-cp' ∙ (f.copy_marked h.copy h.is_copy
-          ∙ sym (get_or-set_same (set m.multiport (slot_of M.node cp) false) (slot_of M'.node cp) true false (lt-length-set m.multiport (slot_of M.node cp) false below'))))
+          ∙ sym (get_or-set_same (set m.multiport (slot_of M.node cp) false) (slot_of M'.node cp) true false (lt-length-set m.multiport (slot_of M.node cp) false (mark_below m f.marks_long r.good cp valid-cp')))))
 
       old : (s : ℕ) → (s ≡ slot_of M'.node cp → ⊥) → s ≡ slot_of M.node cp → get_or (recounted m h.copy g').multiport s false ≡ get_or (set (set m.multiport (slot_of M.node cp) false) (slot_of M'.node cp) true) s false
       old s n e =
           go (get_or (recounted m h.copy g').multiport s false) refl
           ∙ sym (get_or-set_other (set m.multiport (slot_of M.node cp) false) (slot_of M'.node cp) s true false n
-          ∙ (ap (λ (k : ℕ). get_or (set m.multiport (slot_of M.node cp) false) k false) e ∙ get_or-set_same m.multiport (slot_of M.node cp) false false below))
+          ∙ (ap (λ (k : ℕ). get_or (set m.multiport (slot_of M.node cp) false) k false) e ∙ get_or-set_same m.multiport (slot_of M.node cp) false false (mark_below m f.marks_long f.good cp valid_cp)))
         where
           go : (t : Bool) → get_or (recounted m h.copy g').multiport s false ≡ t → t ≡ false
           go true t = absurd ((marked_after s n t).1 e)

@@ -1,6 +1,6 @@
 -- What carries over from one graph to another where the hidden nodes that are left keep their counts and their links:
 -- which side has the copy port, what each end is, and that the graph is fine.
-use Rattle.std.proofs.lemmas.Bool.{cases_Bool}
+use Rattle.std.proofs.lemmas.Bool.{false_from_ne_true}
 use Rattle.std.specs.Prelude.{◌≡◌, Bool, ◌⊎◌, ℕ, ◌+◌, ◌≤◌, ◌<◌, length, Some}
 use Rattle.std.proofs.Math.Path.{refl, sym, subst}
 use Rattle.std.proofs.Common.{◌∙◌, ap, inl, inr, arith, eq-eqb, ne_eqb}
@@ -72,7 +72,7 @@ module _ {m : MultiPortGraph} {M : Model} {m' : MultiPortGraph} {M' : Model} (f 
   copy_join_kept c h = ap M'.join (same_copy (copy_side_kept c h)) ∙ F.join c h
 
   pub shown_kept : (n : ℕ) → is_hidden m n ≡ false → is_hidden m' n ≡ false
-  shown_kept n h = ⊎_elim (λ t. absurd (true_not_false (F.hid n t) h)) (λ e. e) (cases_Bool (is_hidden m' n))
+  shown_kept n h = false_from_ne_true (is_hidden m' n) (λ t. true_not_false (F.hid n t) h)
 
   pub copy_slot_kept : (c : ℕ) → is_hidden m' c ≡ true → slot_of M'.node (copy_place m' c) ≡ slot_of M.node (copy_place m c)
   copy_slot_kept c h =

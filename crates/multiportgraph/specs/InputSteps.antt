@@ -1,5 +1,5 @@
 -- What the code's steps amount to where a link names an input that has a wire, and where it names none.
-use Rattle.std.specs.Prelude.{◌≡◌, Bool, ℕ, eqb, Result, Ok, Err}
+use Rattle.std.specs.Prelude.{◌≡◌, Bool, List, ℕ, eqb, Result, Ok, Err}
 use Rattle.std.proofs.Math.Path.{refl, ap}
 use Rattle.std.proofs.Common.{sym, ◌∙◌}
 use Rattle.std.proofs.Math.Bool.{true, false, cond, not}
@@ -19,20 +19,20 @@ use Rattle.multi_tables.specs.NamedEnds.{taken_seen, taken_ends, taken_first, ta
 use Rattle.multiportgraph.specs.Named.{joined_at, link_by}
 use Rattle.multiportgraph.specs.NamedLaws.{sub_of_named, link_done, clean_done}
 use Rattle.multiportgraph.specs.CaseLaws.{link_taken, link_clean_taken, link_sub_taken}
-use Rattle.multi_tables.specs.TakenInputs.{wired_port, wired_in, taken_in, taken_sub_in, taken_ports_in, pair_named_under, link_named_under}
+use Rattle.multi_tables.specs.TakenInputs.{wired_port, wired_in, taken_in, taken_sub_in, taken_ports_in, pair_named_under, link_named_under, inputs_free}
 use Rattle.multiportgraph.specs.declared.multiportgraph.MultiPortGraph.{MultiPortGraph}
 use Rattle.multi_tables.specs.declared.answers.SubportIndex.{SubportIndex}
 use Rattle.multiportgraph.specs.declared.multiportgraph.PortsLinked.{PortsLinked}
 use Rattle.multi_tables.specs.declared.answers.Refusal.{Refusal}
 use Rattle.multi_tables.specs.declared.answers.Refusal.TheVariants.{BadOffset, InputWired}
-use Rattle.multi_tables.specs.TakenSteps.{unrefused}
+use Rattle.multi_tables.specs.TakenSteps.{unrefused, inputs_taken, inputs_untaken}
 
 -- The calls.
 
 module _ {m : MultiPortGraph} (w : MultiWf m) where
   wired_read : (p : ℕ) → wired_in m.multiport m.graph.port_link m.graph.port_meta m.copy_node p ≡ wired_input m p
   unfolding wired_in wired_input
-  wired_read p = ap (wired_port m.multiport m.graph.port_link m.graph.port_meta m.copy_node p) (seen_read w.fine p) ∙ go (seen m p) refl
+  wired_read p = ap (wired_port m.multiport m.graph.port_link m.graph.port_meta m.copy_node p) (seen_read m w.fine.flags_long p) ∙ go (seen m p) refl
     where
       go : (s : Port) → seen m p ≡ s → wired_port m.multiport m.graph.port_link m.graph.port_meta m.copy_node p s ≡ wired_seen m p s
       go dead e = refl
@@ -50,13 +50,13 @@ module _ {m : MultiPortGraph} (w : MultiWf m) where
       pub ports_taken : (x : Refusal) → x ≡ taken_ports_in m.graph.port_meta m.copy_node a b → link_refused m x ≡ link_pair m a b
       unfolding taken_ports_in
       ports_taken x e =
-          ap (link_refused m) (e ∙ (λ i. taken_seen a b (seen_read w.fine a i) (seen_read w.fine b i)))
+          ap (link_refused m) (e ∙ (λ i. taken_seen a b (seen_read m w.fine.flags_long a i) (seen_read m w.fine.flags_long b i)))
           ∙ (sym (link_taken present m a b) ∙ ap (λ (u : Bool). link_pair_if u present m a b) (sym t ∙ taken_is))
 
       pub clean_taken : (x : Refusal) → x ≡ taken_ports_in m.graph.port_meta m.copy_node a b → link_refused m x ≡ link_clean m a b
       unfolding taken_ports_in
       clean_taken x e =
-          ap (link_refused m) (e ∙ (λ i. taken_seen a b (seen_read w.fine a i) (seen_read w.fine b i)))
+          ap (link_refused m) (e ∙ (λ i. taken_seen a b (seen_read m w.fine.flags_long a i) (seen_read m w.fine.flags_long b i)))
           ∙ (sym (link_clean_taken present m a b) ∙ ap (λ (u : Bool). link_clean_if u present m a b) (sym t ∙ taken_is))
 
       module _ (o r : ℕ) where
@@ -74,7 +74,7 @@ module _ {m : MultiPortGraph} (w : MultiWf m) where
         unfolding taken_sub_in
         sub_taken x e =
             ap (link_refused m) (e ∙ ap (λ (v : Refusal). cond (good_offset o) (cond (good_offset r) v BadOffset) BadOffset)
-            ((λ i. taken_ends a (λ d. end_in m.multiport m.graph.port_link m.graph.port_meta a d o) b (λ e. end_in m.multiport m.graph.port_link m.graph.port_meta b e r) (seen_read w.fine a i) (seen_read w.fine b i))
+            ((λ i. taken_ends a (λ d. end_in m.multiport m.graph.port_link m.graph.port_meta a d o) b (λ e. end_in m.multiport m.graph.port_link m.graph.port_meta b e r) (seen_read m w.fine.flags_long a i) (seen_read m w.fine.flags_long b i))
             ∙ ends_read (seen m a) (seen m b) refl refl))
             ∙ (sym (link_sub_taken m a o b r) ∙ ap (λ (u : Bool). link_sub_if u m a o b r) (sym t ∙ taken_is))
 
@@ -125,6 +125,18 @@ module _ {m : MultiPortGraph} (w : MultiWf m) where
     sub_joined told f g =
         let z = unrefused (taken_in m.multiport m.graph.port_link m.graph.port_meta m.copy_node m.release p q) (sym is ∙ told) (λ k. zero_is_not_one (cc)) in
         sub_untaken w p q refl z.0 o r (link_done w p o q r refl z.1 f g refl)
+
+-- The check of a link of ports, over tables that are the graph's: what it refuses the link is refused with, and else no input that is named has a wire.
+module _ {m : MultiPortGraph} (w : MultiWf m) (a b : ℕ) {marks : List Bool} {links owners : List ℕ} {flags : List Bool} {u : Result (Unit {0}) Refusal}
+    (e : (marks ≡ m.multiport) × (links ≡ m.graph.port_link) × (owners ≡ m.graph.port_meta) × (flags ≡ m.copy_node)) (is : u ≡ inputs_free marks links owners flags m.release a b) where
+  checked : u ≡ inputs_free m.multiport m.graph.port_link m.graph.port_meta m.copy_node m.release a b
+  checked = rw (e.0, e.1, e.2, e.3) at is
+
+  pub input_refused : {x : Refusal} → u ≡ Err x → link_refused m x ≡ link_pair m a b
+  input_refused t = let h = inputs_taken _ _ _ _ _ _ _ checked _ t in ports_taken w a b refl h.0 _ h.1
+
+  pub inputs_passed : {x : Unit {0}} → u ≡ Ok x → {l : PortsLinked} → l ≡ link_pair_if false present m a b → l ≡ link_pair m a b
+  inputs_passed t = ports_untaken w a b refl (inputs_untaken _ _ _ _ _ _ _ checked _ t)
 
 -- A call in place tells its graph and its answer one by one: those of one link are those of another.
 pub parts_untaken : {k l : PortsLinked} → k ≡ l → {g : MultiPortGraph} {y : Result (SubportIndex × SubportIndex) Refusal} → (g ≡ k.graph) × (y ≡ k.answer) → (g ≡ l.graph) × (y ≡ l.answer)

@@ -356,22 +356,23 @@ pub record AddDone (m : MultiPortGraph) (M : Model) (m' : MultiPortGraph) (n p i
   pub only : (k : ℕ) (l : NodeMeta) → BlockIs m' model k l → (k ≡ n) ⊎ BlockIs m M k l
   pub new : (l : NodeMeta) → BlockIs m M n l → ⊥
 
+-- a node that is there stays as it is where one is added
+pub live_stays : {M : Model} → Good M → (incoming outgoing n : ℕ) (k : NodeMeta) → M.node n ≡ live k → (add_model M incoming outgoing).node n ≡ M.node n
+live_stays {M} g incoming outgoing n k e = upd_other M.node (next_slot M) _ n (λ q. gone_not_live (next_slot_gone g) (ap M.node (sym q) ∙ e))
+
 module _ {m : MultiPortGraph} {M : Model} (f : Fine m M) (incoming outgoing : ℕ) (small : incoming + outgoing ≤ node_ports)
     (node_room : M.node_len + growth 1 M.free_nodes ≤ node_slots)
     (port_room : M.port_len + growth (incoming + outgoing) (M.free_blocks (incoming + outgoing)) ≤ port_slots) where
   abbrev added_graph : PortGraph
   added_graph = place_node m.graph (next_slot M) (next_block M (incoming + outgoing)) incoming outgoing
 
-  live_stays : (n : ℕ) (k : NodeMeta) → M.node n ≡ live k → (add_model M incoming outgoing).node n ≡ M.node n
-  live_stays n k e = upd_other M.node (next_slot M) _ n (λ q. gone_not_live (next_slot_gone f.good) (ap M.node (sym q) ∙ e))
-
   valid_stays : (z : model.InnerPlace) → Valid M.node z → (add_model M incoming outgoing).node z.node ≡ M.node z.node
-  valid_stays z v = let r = slot_in_block f.good z v in live_stays z.node r.0 r.1
+  valid_stays z v = let r = slot_in_block f.good z v in live_stays f.good incoming outgoing z.node r.0 r.1
 
-  add_frame : Frame m M (with_graph m added_graph) (add_model M incoming outgoing)
+  pub add_frame : Frame m M (with_graph m added_graph) (add_model M incoming outgoing)
   add_frame =
       plain_frame f (good_add f.good incoming outgoing small node_room port_room) (place_holds f.good f.holds incoming outgoing small node_room port_room)
-      (λ c h. live_stays c (f.copy c h).meta (f.copy c h).here)
+      (λ c h. live_stays f.good incoming outgoing c (f.copy c h).meta (f.copy c h).here)
       (λ c x h e. valid_stays x (joined_is_valid f.good (copy_place m c) x e))
       (λ c h. refl)
 
@@ -391,7 +392,7 @@ module _ {m : MultiPortGraph} {M : Model} (f : Fine m M) (incoming outgoing : �
                   inl (kept_wire f add_frame w e e.joined (added_alike e.x (f.good.join_valid e.x e.y e.joined)) (hidden_below m added_graph e.y.node), refl);
             };
         block = (hidden_below m added_graph (next_slot M) ∙ new_shown, upd_same M.node (next_slot M) _);
-        kept = λ k l b. (hidden_below m added_graph k ∙ b.0, live_stays k l b.1 ∙ b.1);
+        kept = λ k l b. (hidden_below m added_graph k ∙ b.0, live_stays f.good incoming outgoing k l b.1 ∙ b.1);
         only = λ k l b.
             upd_elim (λ v. v ≡ live l → (k ≡ next_slot M) ⊎ BlockIs m M k l) M.node (next_slot M) _ k (λ q e. inl q) (λ q e. inr (sym (hidden_below m added_graph k) ∙ b.0, e)) b.1;
         new = λ l b. gone_not_live (next_slot_gone f.good) b.1;

@@ -13,7 +13,7 @@ use Rattle.multi_tables.specs.Forms.{subport#, visible, seen_as}
 use Rattle.multiportgraph.specs.HiddenNodes as hiding
 use Rattle.multiportgraph.specs.CodeForms.{Prepared, prepared_as}
 use Rattle.multiportgraph.specs.WellFormed.{MultiWf}
-use Rattle.multiportgraph.specs.PrepareSteps.{lower_wf}
+use Rattle.multiportgraph.specs.CallSteps.{lower_wf}
 use Rattle.multiportgraph.specs.LinkSteps.{is_ready, others_stay, still_wf, first_ready_lem, seen_told, seen_back}
 use Rattle.multiportgraph.specs.Named.{joined_at}
 use Rattle.multiportgraph.specs.NamedLaws.{both_joined}
@@ -28,7 +28,9 @@ use Rattle.multi_tables.specs.declared.seen.SeenPort.TheVariants as seen_port
 use Rattle.multiportgraph.specs.declared.needs.Need.{Need}
 use Rattle.multiportgraph.specs.declared.needs.Takes.{Takes}
 use Rattle.multiportgraph.specs.HiddenNodes.{prepare}
-use Rattle.multiportgraph.specs.Cases.{link_second, link_first, link_live, link_seen}
+use Rattle.multi_tables.specs.NamedEnds.{block_port}
+use Rattle.multiportgraph.specs.StartSteps.{seen_refused}
+use Rattle.multiportgraph.specs.Cases.{link_refused, link_second, link_first, link_live, link_seen}
 use Rattle.multiportgraph.specs.CaseLaws.{link_cases}
 use Rattle.multiportgraph.specs.Presumed.{OnBlock, BothOnBlock, GrowPort, FirstReady}
 use Rattle.multiportgraph.specs.Calls.{link_pair_if}
@@ -107,20 +109,19 @@ module _ (m : MultiPortGraph) {a : ℕ} {d : Direction} {b : ℕ} {e : Direction
       is : prepare m a d ≡ hiding.ready g n.0 n.1
       is = is_ready m (prepare m a d) (g, r) h t
 
-      pub both_first : FirstReady g a d n.0 n.1 b e
-      both_first =
-          record {
-            both = record { first = others_stay w.first (g, r) h t a d w.first; second = second_still m w apart g n.0 n.1 is };
-            is = again_ready w.first g n.0 n.1 is;
-          }
-
-      pub both_need : v ≡ need_of g b e
-      both_need = ev ∙ sym (need_stays w.first g n.0 n.1 is w.second apart)
+      pub both_ready : FirstReady g a d n.0 n.1 b e × (v ≡ need_of g b e)
+      both_ready = (
+        record {
+          both = record { first = others_stay w.first (g, r) h t a d w.first; second = second_still m w apart g n.0 n.1 is };
+          is = again_ready w.first g n.0 n.1 is;
+        },
+        ev ∙ sym (need_stays w.first g n.0 n.1 is w.second apart),
+      )
 
       both_same : (p : hiding.Prepared) → prepare g b e ≡ p → link_live g a d b e (prepare g a d) ≡ link_live m a d b e (prepare m a d)
       both_same hiding.full k = absurd (second_finds_room m w apart g n.0 n.1 is (room true q) k)
       both_same (hiding.ready m₂ y z) k =
-          ap (link_live g a d b e) both_first.is
+          ap (link_live g a d b e) both_ready.0.is
           ∙ (ap (link_second g a d n.0 n.1 b e) k
           ∙ (sym (ap (link_second m a d n.0 n.1 b e) k) ∙ sym (ap (link_live m a d b e) is)))
 
@@ -128,7 +129,10 @@ module _ (m : MultiPortGraph) {a : ℕ} {d : Direction} {b : ℕ} {e : Direction
           (k ≡ (link_live m a d b e (prepare m a d)).graph) × (y ≡ (link_live m a d b e (prepare m a d)).answer)
       both_done = parts_untaken (both_same (prepare g b e) refl)
 
--- How the ports are seen.
+-- How the ports are seen. What the first port is refused with, the link is.
+pub call_refused : {m : MultiPortGraph} (w : MultiWf m) (a b : ℕ) {r : Refusal} → block_port m.graph.port_meta m.copy_node a ≡ Err r → link_refused m r ≡ link_pair_if false present m a b
+call_refused {m} w a b e = seen_refused m a w.fine.flags_long (link_refused m) (λ s. link_seen m a b s (seen m b)) _ refl refl e ∙ sym (link_cases present m a b)
+
 module _ {m : MultiPortGraph} {a : ℕ} {d : Direction} (w : OnBlock m a d) (b : ℕ) {s : SeenPort} (eb : s ≡ seen_as (seen m b)) where
   call_is : {u : SeenPort} → s ≡ u → link_pair_if false present m a b ≡ link_seen m a b (visible w.node d) (seen_back u)
   call_is t = link_cases present m a b ∙ (λ i. link_seen m a b (w.is i) (seen_told (seen m b) eb t i))

@@ -1,9 +1,10 @@
 -- Steps of the walks over the links of a block and of a port, over plain values.
 use Rattle.std.proofs.Math.Path.{◌≡◌, refl, sym, ap}
 use Rattle.std.proofs.Common.{◌∙◌}
-use Rattle.std.specs.Prelude.{Bool, cond, eqb, Option, Some, None, Result, Ok, Err}
+use Rattle.std.specs.Result.{result_ok}
+use Rattle.std.specs.Prelude.{Bool, cond, eqb, length, Option, Some, None, Result, Ok, Err}
 use Rattle.std.proofs.Math.Bool.{true, false}
-use mathlib.Core.List.{List, [], ◌∷◌, ◌++◌, append-nil, flat_map}
+use mathlib.Core.List.{List, [], ◌++◌, append-nil, flat_map}
 use Prim.Native.Nat.{ℕ, suc, ◌+◌, ◌-◌, ◌≤◌, ◌<◌}
 use native.Mathlib.Omega.{arith}
 use Rattle.port_tables.specs.Lists.{range, on_first, on_last}
@@ -24,7 +25,11 @@ use Rattle.multiportgraph.specs.TableReadLaws.{seen_read}
 use Rattle.multiportgraph.specs.Wires.{is_block, side_links, held_at}
 use Rattle.multiportgraph.specs.Walks.{both_seen, between, by_sides, port_links_seen, port_links, links_left, step_front, step_back, link_beyond, node_links, step_links, is_own_output, not_ignored, neighbour_links, neighbours_item, step_neighbours, connections, connections_item, links_item, step_connections}
 use Rattle.port_tables.specs.Listing.{filter_same}
-use Rattle.multiportgraph.specs.ScanLaws.{range_append, range_between, block_not_hidden, flat_map_append}
+use Rattle.multiportgraph.specs.RangeSearches.{last_append}
+use Rattle.port_tables.specs.Limits.{node_slots}
+use Rattle.multi_tables.specs.NamedEnds.{block_port}
+use Rattle.multiportgraph.specs.StartSteps.{block_unread}
+use Rattle.multiportgraph.specs.ScanLaws.{last_told, found_told, found_if, range_append, range_between, block_not_hidden, flat_map_append}
 use Rattle.multiportgraph.specs.LookupSteps.{block_at, meta_is}
 use Rattle.multi_tables.specs.Scans.{first_found, span_first, span_count, not_own_output, passes_in, links_in, beyond_in, end_before}
 use Rattle.multi_tables.specs.ScanSteps.{filter_every}
@@ -67,38 +72,6 @@ module _ (m : MultiPortGraph) (n : ℕ) (sides : Sides) (f : LinkFilter) (held o
       ∙ ap (λ (x : ℕ). first_found (filter passing (beyond_in m.multiport m.graph.port_link m.graph.port_meta m.copy_node (ports_from k sides) x held o))) eb
       ∙ rw (both_found m n k held true w e h) (ap first_found read)
 
--- what was found, as a step has it
-module _ {B : Type 0} (end : B) (item : SubportLink → B) where
-  first_item : (b : Bool) (l : List SubportLink) (r : Option SubportLink) (w : SubportLink) → r ≡ first_found (cond b l []) → r ≡ Some w → item w ≡ cond b (on_first end item l) end
-  unfolding first_found on_first
-  first_item true [] r w e h = let z : ◌≡◌ {A = ℕ} 0 1 = cc in absurd (omega arith)
-  first_item true (v ∷ l) r w e h = let s : w ≡ v = cc in ap item s
-  first_item false l r w e h = let z : ◌≡◌ {A = ℕ} 0 1 = cc in absurd (omega arith)
-
-  first_end : (b : Bool) (l : List SubportLink) (r : Option SubportLink) → r ≡ first_found (cond b l []) → r ≡ None → end ≡ cond b (on_first end item l) end
-  unfolding first_found on_first
-  first_end true [] r e h = refl
-  first_end true (v ∷ l) r e h = let z : ◌≡◌ {A = ℕ} 0 1 = cc in absurd (omega arith)
-  first_end false l r e h = refl
-
-  last_item : (l : List SubportLink) (r : Option SubportLink) (w : SubportLink) → r ≡ last_found l → r ≡ Some w → item w ≡ on_last end item l
-  unfolding last_found on_last
-  last_item [] r w e h = let z : ◌≡◌ {A = ℕ} 0 1 = cc in absurd (omega arith)
-  last_item (v ∷ l) r w e h = go l v (sym h ∙ e)
-    where
-      go : (l : List SubportLink) (v : SubportLink) → Some w ≡ on_last (Some v) Some l → item w ≡ on_last (item v) item l
-      go [] v e = let s : w ≡ v = cc in ap item s
-      go (u ∷ l) v e = go l u e
-
-  last_end : (l : List SubportLink) (r : Option SubportLink) → r ≡ last_found l → r ≡ None → end ≡ on_last end item l
-  unfolding last_found on_last
-  last_end [] r e h = refl
-  last_end (v ∷ l) r e h = go l v (sym h ∙ e)
-    where
-      go : (l : List SubportLink) (v : SubportLink) → None ≡ on_last (Some v) Some l → end ≡ on_last (item v) item l
-      go [] v e = let z : ◌≡◌ {A = ℕ} 0 1 = cc in absurd (omega arith)
-      go (u ∷ l) v e = go l u e
-
 -- Links of a block.
 
 module _ (m : MultiPortGraph) (c : NodeLinks) (r : Option SubportLink)
@@ -108,11 +81,11 @@ module _ (m : MultiPortGraph) (c : NodeLinks) (r : Option SubportLink)
   unfolding step_links node_links block_left
   links_item_lem w k h g =
       ap (λ (x : Held). Some (w, record { node = c.node; sides = c.sides; skip = c.skip; held = x })) g
-      ∙ first_item None (links_item c) (both_seen m c.node.0 c.held.port) _ r w e h
+      ∙ found_if None (links_item c) (both_seen m c.node.0 c.held.port) _ (sym h ∙ e)
 
   pub links_none : r ≡ None → None ≡ step_links m c
   unfolding step_links node_links block_left
-  links_none h = first_end None (links_item c) (both_seen m c.node.0 c.held.port) _ r e h
+  links_none h = found_if None (links_item c) (both_seen m c.node.0 c.held.port) _ (sym h ∙ e)
 
 -- Neighbours.
 
@@ -132,7 +105,7 @@ module _ (m : MultiPortGraph) (w : MultiWf m) (c : Neighbours) (f : LinkFilter) 
   passed_same true l =
       filter_same (λ v. not_own_output c.node.0 (seen_as (seen_in m.graph.port_meta m.copy_node v.to.port.0))) (not_ignored m c.node.0 true) l
       (λ v i. own_by m c.node (seen_in m.graph.port_meta m.copy_node v.to.port.0)
-      ∙ ap (λ (s : Port). cond (is_own_output m c.node.0 s) false true) (seen_read w.fine v.to.port.0))
+      ∙ ap (λ (s : Port). cond (is_own_output m c.node.0 s) false true) (seen_read m w.fine.flags_long v.to.port.0))
   passed_same false l = filter_same (λ v. true) (not_ignored m c.node.0 false) l (λ v i. refl)
 
   listed : r ≡ first_found (cond (both_seen m c.node.0 c.held.port) (filter (link_beyond c.held.port c.held.offset) (neighbour_links m c.node.0 c.sides c.ignore_self)) [])
@@ -148,11 +121,11 @@ module _ (m : MultiPortGraph) (w : MultiWf m) (c : Neighbours) (f : LinkFilter) 
   unfolding step_neighbours owner_in owner_of
   neighbours_item_lem v k x h g i =
       (λ j. Some (node# (g j), record { node = c.node; sides = c.sides; ignore_self = c.ignore_self; held = i j }))
-      ∙ first_item None (neighbours_item m c) (both_seen m c.node.0 c.held.port) _ r v listed h
+      ∙ found_if None (neighbours_item m c) (both_seen m c.node.0 c.held.port) _ (sym h ∙ listed)
 
   pub neighbours_none : r ≡ None → None ≡ step_neighbours m c
   unfolding step_neighbours
-  neighbours_none h = first_end None (neighbours_item m c) (both_seen m c.node.0 c.held.port) _ r listed h
+  neighbours_none h = found_if None (neighbours_item m c) (both_seen m c.node.0 c.held.port) _ (sym h ∙ listed)
 
 -- Connections.
 
@@ -173,11 +146,11 @@ module _ (m : MultiPortGraph) (c : NodeConnections) where
     connections_item_lem w k h g =
         rw t
         (ap (λ (x : Held). Some (w, record { node = c.node; target = c.target; held = x })) g
-        ∙ first_item None (connections_item c) (both_seen m c.node.0 c.held.port) _ r w connected h)
+        ∙ found_if None (connections_item c) (both_seen m c.node.0 c.held.port) _ (sym h ∙ connected))
 
     pub connections_none : r ≡ None → None ≡ step_connections m c
     unfolding step_connections
-    connections_none h = rw t (first_end None (connections_item c) (both_seen m c.node.0 c.held.port) _ r connected h)
+    connections_none h = rw t (found_if None (connections_item c) (both_seen m c.node.0 c.held.port) _ (sym h ∙ connected))
 
 -- Links of a port.
 
@@ -195,16 +168,11 @@ module _ (links owners : List ℕ) (flags : List Bool) (p first : ℕ) where
       ∙ ap (λ (x : ℕ). flat_map link_at (range from (stop - 1 - from)) ++ (link_at x ++ [])) b
       ∙ ap (λ (l : List SubportLink). flat_map link_at (range from (stop - 1 - from)) ++ l) (append-nil (link_at (stop - 1)))
 
-  last_after : (x : Option SubportLink) (a : List SubportLink) (w : SubportLink) → on_last x Some (a ++ (w ∷ [])) ≡ Some w
-  unfolding on_last
-  last_after x [] w = refl
-  last_after x (v ∷ a) w = last_after (Some v) a w
-
   -- a single end gives one link at most
   last_of_one : (a : List SubportLink) (s : SubportIndex) (x : Result (Option (SubportIndex × PortPlace)) Refusal) (r : Option SubportLink) → r ≡ first_found (filter (λ (v : SubportLink). true) (wire_to s x))
       → ((w : SubportLink) → r ≡ Some w → r ≡ last_found (a ++ wire_to s x)) × (r ≡ None → last_found a ≡ last_found (a ++ wire_to s x))
   unfolding first_found last_found
-  last_of_one a s (Ok (Some (t, x))) r e = (λ w h. e ∙ sym (last_after None a (record { from = s; to = t; place = x })), λ h. let z : ◌≡◌ {A = ℕ} 0 1 = cc in absurd (omega arith))
+  last_of_one a s (Ok (Some (t, x))) r e = (λ w h. e ∙ sym (last_append None Some a (record { from = s; to = t; place = x })), λ h. let z : ◌≡◌ {A = ℕ} 0 1 = cc in absurd (omega arith))
   last_of_one a s (Ok None) r e = (λ w h. let z : ◌≡◌ {A = ℕ} 0 1 = cc in absurd (omega arith), λ h. ap (on_last None Some) (sym (append-nil a)))
   last_of_one a s (Err q) r e = (λ w h. let z : ◌≡◌ {A = ℕ} 0 1 = cc in absurd (omega arith), λ h. ap (on_last None Some) (sym (append-nil a)))
 
@@ -236,19 +204,22 @@ module _ (marks : List Bool) (links owners : List ℕ) (flags : List Bool) (p : 
       → r ≡ first_found (left_in marks links owners flags p d front back)
   left_first r e = e ∙ ap first_found (filter_every (links_in links owners flags p first f (end - f)) ∙ left_is)
 
-module _ (m : MultiPortGraph) (c : PortLinks) where
-  left_unseen : (s : Port) → seen m c.port.0 ≡ s → port_links_seen m c.port.0 s ≡ [] → links_left m c ≡ []
+-- a port that is refused has none
+module _ (m : MultiPortGraph) (c : PortLinks) (long : length m.copy_node ≡ node_slots) {b : Result (NodeIndex × Direction) Refusal} {o : Option (NodeIndex × Direction)}
+    (e : b ≡ block_port m.graph.port_meta m.copy_node c.port.0) (k : o ≡ result_ok b) (none : o ≡ None) where
+  left_unseen : links_left m c ≡ []
   unfolding links_left port_links
-  left_unseen s e f = rw (e, f)
+  left_unseen = rw (block_unread m c.port.0 long (port_links_seen m c.port.0) refl refl e k none)
 
-  pub front_unseen : (s : Port) → seen m c.port.0 ≡ s → port_links_seen m c.port.0 s ≡ [] → None ≡ step_front m c
+  pub front_unseen : None ≡ step_front m c
   unfolding step_front on_first
-  front_unseen s e f = rw (left_unseen s e f)
+  front_unseen = rw left_unseen
 
-  pub back_unseen : (s : Port) → seen m c.port.0 ≡ s → port_links_seen m c.port.0 s ≡ [] → None ≡ step_back m c
+  pub back_unseen : None ≡ step_back m c
   unfolding step_back on_last
-  back_unseen s e f = rw (left_unseen s e f)
+  back_unseen = rw left_unseen
 
+module _ (m : MultiPortGraph) (c : PortLinks) where
   module _ (w : MultiWf m) (n : ℕ) (d : Direction) (s : seen m c.port.0 ≡ visible n d) (r : Option SubportLink) where
     abbrev left_told : List SubportLink
     left_told = left_in m.multiport m.graph.port_link m.graph.port_meta m.copy_node c.port.0 d c.front c.back
@@ -265,21 +236,21 @@ module _ (m : MultiPortGraph) (c : PortLinks) where
     unfolding step_front
     front_item v e h =
         ap (λ (x : ℕ). Some (v, record { port = c.port; front = x; back = c.back })) (add-one v.from.subport_offset)
-        ∙ first_item None (λ (u : SubportLink). Some (u, record { port = c.port; front = suc u.from.subport_offset; back = c.back })) true (links_left m c) r v (e ∙ ap first_found left_read) h
+        ∙ found_told None (λ (u : SubportLink). Some (u, record { port = c.port; front = suc u.from.subport_offset; back = c.back })) _ (sym h ∙ e ∙ ap first_found left_read)
 
     pub front_none : r ≡ first_found left_told → r ≡ None → None ≡ step_front m c
     unfolding step_front
     front_none e h =
-        first_end None (λ (u : SubportLink). Some (u, record { port = c.port; front = suc u.from.subport_offset; back = c.back })) true (links_left m c) r (e ∙ ap first_found left_read) h
+        found_told None (λ (u : SubportLink). Some (u, record { port = c.port; front = suc u.from.subport_offset; back = c.back })) _ (sym h ∙ e ∙ ap first_found left_read)
 
     pub back_link_item : (v : SubportLink) → r ≡ last_found left_told → r ≡ Some v
         → Some (v, record { port = c.port; front = c.front; back = v.from.subport_offset + 1 }) ≡ step_back m c
-    unfolding step_back
+    unfolding step_back last_found
     back_link_item v e h =
         ap (λ (x : ℕ). Some (v, record { port = c.port; front = c.front; back = x })) (add-one v.from.subport_offset)
-        ∙ last_item None (λ (u : SubportLink). Some (u, record { port = c.port; front = c.front; back = suc u.from.subport_offset })) (links_left m c) r v (e ∙ ap last_found left_read) h
+        ∙ last_told None (λ (u : SubportLink). Some (u, record { port = c.port; front = c.front; back = suc u.from.subport_offset })) _ (sym h ∙ e ∙ ap last_found left_read)
 
     pub back_link_end : r ≡ last_found left_told → r ≡ None → None ≡ step_back m c
-    unfolding step_back
+    unfolding step_back last_found
     back_link_end e h =
-        last_end None (λ (u : SubportLink). Some (u, record { port = c.port; front = c.front; back = suc u.from.subport_offset })) (links_left m c) r (e ∙ ap last_found left_read) h
+        last_told None (λ (u : SubportLink). Some (u, record { port = c.port; front = c.front; back = suc u.from.subport_offset })) _ (sym h ∙ e ∙ ap last_found left_read)

@@ -68,7 +68,7 @@ flat_map_none f (x ∷ l) h =
     λ i. a i ++ r i
 
 -- items of equal length
-flat_map_length : {A B : Type 0} (f : A → List B) (c : ℕ) → ((x : A) → length (f x) ≡ c) → (l : List A) → length (flat_map f l) ≡ c * length l
+pub flat_map_length : {A B : Type 0} (f : A → List B) (c : ℕ) → ((x : A) → length (f x) ≡ c) → (l : List A) → length (flat_map f l) ≡ c * length l
 unfolding flat_map
 flat_map_length f c h [] = omega arith
 flat_map_length f c h (x ∷ l) =

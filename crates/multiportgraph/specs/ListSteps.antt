@@ -63,29 +63,30 @@ module _ {f : ℕ → List ℕ} {l₀ whole l : List ℕ} {p o n : ℕ} (w : Pas
         omega arith
 
     -- there is room for it in the rest of the list
-    pub item_room : length (f o) ≤ length (take (length l - p) (drop p l))
-    item_room = let a = item_fits in let d = length-drop p l in rw (take_rest l p) (omega arith)
+    pub item_room : {x : List ℕ} → x ≡ f o → length x ≤ length (take (length l - p) (drop p l))
+    item_room e = let a = item_fits in let d = length-drop p l in rw (e, take_rest l p) (omega arith)
 
     -- it is written at the front of the rest of the list
-    pub item_laid : {ys : List ℕ} {k : ℕ} → (k ≡ length (f o)) × (ys ≡ sets (take (length l - p) (drop p l)) 0 (f o))
-        → Passing l₀ whole (put_mid p (length l - p) l ys) (p + k) f (o + 1) n × (p + k ≤ length (put_mid p (length l - p) l ys))
-    item_laid {ys} {k} e =
-        let fits = item_fits in
-        let laid = part_laid l (f o) ys p fits e.1 in
-        let long = ap length laid ∙ length-sets l p (f o) in
-        let s = ap length (flat_map_on f o n h) ∙ length-append (f o) rest in
-        let c = w.writing.counted in
-        let g = w.writing.long in
-        let k_is = e.0 in (
-          record {
-            writing = record {
-              counted = omega arith;
-              same = (λ i. sets (laid i) (p + k_is i) rest) ∙ sets_append l p (f o) rest ∙ sym (ap (sets l p) (flat_map_on f o n h)) ∙ w.writing.same;
-              long = omega arith;
-            };
-          },
-          omega arith,
-        )
+    module _ {ys : List ℕ} {k : ℕ} (size : k ≡ length (f o)) (is : ys ≡ sets (take (length l - p) (drop p l)) 0 (f o)) where
+      laid_there : put_mid p (length l - p) l ys ≡ sets l p (f o)
+      laid_there = part_laid l (f o) ys p item_fits is
+
+      pub item_laid : Passing l₀ whole (put_mid p (length l - p) l ys) (p + k) f (o + 1) n × (p + k ≤ length (put_mid p (length l - p) l ys))
+      item_laid =
+          let fits = item_fits in
+          let long = ap length laid_there ∙ length-sets l p (f o) in
+          let s = ap length (flat_map_on f o n h) ∙ length-append (f o) rest in
+          let c = w.writing.counted in
+          let g = w.writing.long in (
+            record {
+              writing = record {
+                counted = omega arith;
+                same = (λ i. sets (laid_there i) (p + size i) rest) ∙ sets_append l p (f o) rest ∙ sym (ap (sets l p) (flat_map_on f o n h)) ∙ w.writing.same;
+                long = omega arith;
+              };
+            },
+            omega arith,
+          )
 
   pub items_written : n ≤ o → (p ≡ length whole) × (l ≡ sets l₀ 0 whole)
   items_written h =
@@ -95,21 +96,29 @@ module _ {f : ℕ → List ℕ} {l₀ whole l : List ℕ} {p o n : ℕ} (w : Pas
 
 -- Answers.
 
-module _ (numbers list : List ℕ) (count : ℕ) where
+module _ (numbers list : List ℕ) {needed : ℕ} (e : needed ≡ length numbers) where
   -- a list too short stays as it is
-  pub list_short : (needed : ℕ) → needed ≡ length numbers → length list < needed → (Err (record { 0 = needed }) ≡ list_answer count numbers list) × (list ≡ list_after numbers list)
-  unfolding list_answer list_after
-  list_short needed e h =
-      let t = lt-leb (length numbers) (length list) (omega arith) in
-      (rw (t, e), rw t)
+  module _ (h : length list < needed) where
+    pub short_told : (count : ℕ) → Err (record { 0 = needed }) ≡ list_answer count numbers list
+    unfolding list_answer
+    short_told count = let t = lt-leb (length numbers) (length list) (omega arith) in rw (t, e)
+
+    pub short_kept : list ≡ list_after numbers list
+    unfolding list_after
+    short_kept = let t = lt-leb (length numbers) (length list) (omega arith) in rw t
 
   -- one that is long enough is written from its start on
-  pub list_full : (list' : List ℕ) → length numbers ≤ length list → list' ≡ sets list 0 numbers → (Ok count ≡ list_answer count numbers list) × (list' ≡ list_after numbers list)
-  unfolding list_answer list_after
-  list_full list' h e =
-      let t = le-leb (length numbers) (length list) h in
-      let z : 0 + length numbers ≡ length numbers = omega arith in
-      (rw t, rw t (e ∙ (sets-eq numbers list 0 (omega arith) ∙ ap (λ (k : ℕ). numbers ++ drop k list) z)))
+  module _ (h : needed ≤ length list) where
+    pub full_told : (count : ℕ) → Ok count ≡ list_answer count numbers list
+    unfolding list_answer
+    full_told count = let t = le-leb (length numbers) (length list) (omega arith) in rw t
+
+    pub full_written : {list' : List ℕ} → list' ≡ sets list 0 numbers → list' ≡ list_after numbers list
+    unfolding list_after
+    full_written {list'} is =
+        let t = le-leb (length numbers) (length list) (omega arith) in
+        let z : 0 + length numbers ≡ length numbers = omega arith in
+        rw t (is ∙ (sets-eq numbers list 0 (omega arith) ∙ ap (λ (k : ℕ). numbers ++ drop k list) z))
 
 -- Wires.
 

@@ -10,8 +10,8 @@ use Rattle.port_tables.specs.declared.node_entry.NodeMeta.{NodeMeta}
 use Rattle.multiportgraph.specs.Reading.{position_of, is_hidden, seen}
 use Rattle.multi_tables.specs.Forms.{Port, visible}
 use Rattle.multiportgraph.specs.Wires.{is_block}
-use Rattle.multiportgraph.specs.Walks.{Start, started, refused, start_at_node, is_seen}
-use Rattle.multiportgraph.specs.Lookups.{offset_seen, offset_of, fan_out_seen, port_fan_out, contains_port_of, counted, num_ports_of, capacity_of, port_found, port_index_of}
+use Rattle.multiportgraph.specs.Walks.{Start, started, refused, start_at_node}
+use Rattle.multiportgraph.specs.Lookups.{offset_seen, offset_of, fan_out_seen, port_fan_out, counted, num_ports_of, capacity_of, port_found, port_index_of}
 use Rattle.multiportgraph.specs.declared.multiportgraph.MultiPortGraph.{MultiPortGraph}
 use Rattle.multi_tables.specs.declared.answers.Refusal.{Refusal}
 use Rattle.multi_tables.specs.declared.answers.Refusal.TheVariants.{UnknownNode, HiddenNode}
@@ -86,11 +86,12 @@ module _ (m : MultiPortGraph) (n : ℕ) where
   unfolding capacity_of
   capacity_refused r e = ap (λ s. counted s (capacity_in (meta_at m.graph n))) (start_at (Err r) e)
 
-  pub capacity_counted : (k : NodeMeta) (c : ℕ) → block_found m n ≡ Ok k → c ≡ k.capacity → Ok c ≡ capacity_of m n
+  pub capacity_counted : {f : Result NodeMeta Refusal} {k : NodeMeta} {c : ℕ} → f ≡ block_found m n → f ≡ Ok k → c ≡ k.capacity → Ok c ≡ capacity_of m n
   unfolding capacity_of
-  capacity_counted k c e f =
-      ap Ok (f ∙ ap capacity_in (sym (meta_is k e)))
-      ∙ ap (λ s. counted s (capacity_in (meta_at m.graph n))) (start_at (Ok k) e)
+  capacity_counted {k = k} e h f =
+      let there = sym e ∙ h in
+      ap Ok (f ∙ ap capacity_in (sym (meta_is k there)))
+      ∙ ap (λ s. counted s (capacity_in (meta_at m.graph n))) (start_at (Ok k) there)
 
   pub index_refused : (o : PortOffset) (r : Refusal) → block_found m n ≡ Err r → Err r ≡ port_index_of m n o
   unfolding port_index_of
@@ -114,7 +115,3 @@ module _ (m : MultiPortGraph) (p : ℕ) where
   pub fan_out_at : (s : Port) → seen m p ≡ s → fan_out_seen m p s ≡ port_fan_out m p
   unfolding port_fan_out
   fan_out_at s e = ap (fan_out_seen m p) (sym e)
-
-  pub contains_at : (s : Port) → seen m p ≡ s → is_seen s ≡ contains_port_of m p
-  unfolding contains_port_of
-  contains_at s e = ap is_seen (sym e)

@@ -5,7 +5,6 @@ use Rattle.std.proofs.Math.Path.{refl, ap}
 use Rattle.std.proofs.Common.{sym, ◌∙◌}
 use Rattle.std.proofs.Math.Bool.{true, false, cond}
 use Rattle.portgraph.specs.Lookups.{port_at}
-use Rattle.portgraph.specs.LookupSteps.{unlink_live}
 use Rattle.portgraph.specs.Calls.{unlink_port}
 use Rattle.portgraph.specs.GoodSlots.{zero_is_not_one}
 use Rattle.port_tables.specs.declared.direction.Direction.{Direction}
@@ -21,9 +20,8 @@ use Rattle.multiportgraph.specs.Presumed.{OnBlock}
 use Rattle.multiportgraph.specs.CallSteps.{cut_port_plain}
 use Rattle.multi_tables.specs.TableReads.{seen_in, wire_in, plain_in}
 use Rattle.multiportgraph.specs.TableReadLaws.{seen_read, end_read_off, end_is_port, plain_read_lem}
-use Rattle.multiportgraph.specs.Named.{cut_at}
 use Rattle.multi_tables.specs.NamedEnds.{end_or, end_seen, end_named}
-use Rattle.multiportgraph.specs.NamedLaws.{cut_done}
+use Rattle.multiportgraph.specs.NamedLaws.{cut_live, cut_done}
 use Rattle.multiportgraph.specs.declared.multiportgraph.MultiPortGraph.{MultiPortGraph}
 use Rattle.multi_tables.specs.declared.answers.SubportIndex.{SubportIndex}
 use Rattle.multi_tables.specs.declared.answers.Refusal.TheVariants.{BadOffset}
@@ -59,11 +57,6 @@ link_cut m p o =
 module _ {m : MultiPortGraph} (w : MultiWf m) where
   -- An end that is cut.
 
-  live_cut : (x : ℕ) → Live m x → (unlink_port m.graph x).graph ≡ (cut_at m x).graph
-  live_cut x k =
-      ap (λ (u : lower_unlinked.PortUnlinked). u.graph)
-      (sym (unlink_live m.graph x x _ _ _ _ k.0 (sym k.1) refl refl refl refl refl))
-
   module _ (p o x : ℕ) where
     live_end : (n : ℕ) (d : Direction) → seen m p ≡ visible n d → (v : End) → end_at m p d o ≡ v →
         end_or m.multiport m.graph.port_link m.graph.port_meta m.copy_node p v ≡ Ok x → Live m x
@@ -85,7 +78,7 @@ module _ {m : MultiPortGraph} (w : MultiWf m) where
     live_named e = go (good_offset o) e
       where
         go : (b : Bool) → cond b (end_seen m.multiport m.graph.port_link m.graph.port_meta m.copy_node p o (seen_in m.graph.port_meta m.copy_node p)) (Err BadOffset) ≡ Ok x → Live m x
-        go true e = live_seen (seen_in m.graph.port_meta m.copy_node p) (sym (seen_read w.fine p)) e
+        go true e = live_seen (seen_in m.graph.port_meta m.copy_node p) (sym (seen_read m w.fine.flags_long p)) e
         go false e = absurd (zero_is_not_one (cc))
 
   pub end_cut_below : (p o : ℕ) {x : ℕ} {e : Result ℕ Refusal} {r : lower_unlinked.PortUnlinked} {a : Result (Option (SubportIndex × PortPlace)) Refusal} →
@@ -93,7 +86,7 @@ module _ {m : MultiPortGraph} (w : MultiWf m) where
       a ≡ wire_in m.graph.port_link m.graph.port_meta m.copy_node x → ◌≡◌ {A = PortUnlinked} (record { graph = with_graph m r.graph; answer = a }) (cut_sub m p o)
   end_cut_below p o {x} {e} {r} {a} is told u k =
       cut_done w p o is told
-      (λ i. record { graph = with_graph m ((ap (λ (z : lower_unlinked.PortUnlinked). z.graph) u ∙ live_cut x (live_named p o x (sym is ∙ told))) i); answer = k i })
+      (let l = live_named p o x (sym is ∙ told) in λ i. record { graph = with_graph m ((ap (λ (z : lower_unlinked.PortUnlinked). z.graph) u ∙ cut_live w.fine x l.0 l.1) i); answer = k i })
 
   pub port_cut_below : {p : ℕ} {d : Direction} (b : OnBlock m p d) → is_split m p ≡ false → {r : lower_unlinked.PortUnlinked} {a : Result (Option (SubportIndex × PortPlace)) Refusal} → r ≡ unlink_port m.graph p →
       a ≡ plain_in m.graph.port_link m.graph.port_meta m.copy_node p → ◌≡◌ {A = PortUnlinked} (record { graph = with_graph m r.graph; answer = a }) (cut_port m p)

@@ -54,7 +54,7 @@ use Rattle.multi_tables.specs.declared.answers.PortPlace.{PortPlace}
 module _ {m : MultiPortGraph} {M : Model} (f : Fine m M) where
   -- A subport that is named.
 
-  cut_live : (x : ℕ) (k : PortMeta) → port_at m.graph x ≡ port_variants.Port k → (unlink_port m.graph x).graph ≡ (cut_at m x).graph
+  pub cut_live : (x : ℕ) (k : PortMeta) → port_at m.graph x ≡ port_variants.Port k → (unlink_port m.graph x).graph ≡ (cut_at m x).graph
   cut_live x k e =
       ap (λ (u : lower_unlinked.PortUnlinked). u.graph)
       (sym (unlink_live m.graph x x _ _ _ _ k (sym e) refl refl refl refl refl))
@@ -94,7 +94,7 @@ module _ {m : MultiPortGraph} {M : Model} (f : Fine m M) where
       where
         go : (b : Bool) → cond b (link_of_seen m p o (seen m p)) (Err BadOffset)
             ≡ read_named m (cond b (end_seen m.multiport m.graph.port_link m.graph.port_meta m.copy_node p o (seen_in m.graph.port_meta m.copy_node p)) (Err BadOffset))
-        go true = (by_seen (seen m p) refl).0 ∙ ap (λ (s : Port). read_named m (end_seen m.multiport m.graph.port_link m.graph.port_meta m.copy_node p o s)) (sym (seen_read f p))
+        go true = (by_seen (seen m p) refl).0 ∙ ap (λ (s : Port). read_named m (end_seen m.multiport m.graph.port_link m.graph.port_meta m.copy_node p o s)) (sym (seen_read m f.flags_long p))
         go false = refl
 
     pub cut_of_named : cut_sub m p o ≡ cut_named m (end_named m.multiport m.graph.port_link m.graph.port_meta m.copy_node p o)
@@ -103,7 +103,7 @@ module _ {m : MultiPortGraph} {M : Model} (f : Fine m M) where
       where
         go : (b : Bool) → cond b (cut_sub_seen m p o (seen m p)) (cut_refused m BadOffset)
             ≡ cut_named m (cond b (end_seen m.multiport m.graph.port_link m.graph.port_meta m.copy_node p o (seen_in m.graph.port_meta m.copy_node p)) (Err BadOffset))
-        go true = (by_seen (seen m p) refl).1 ∙ ap (λ (s : Port). cut_named m (end_seen m.multiport m.graph.port_link m.graph.port_meta m.copy_node p o s)) (sym (seen_read f p))
+        go true = (by_seen (seen m p) refl).1 ∙ ap (λ (s : Port). cut_named m (end_seen m.multiport m.graph.port_link m.graph.port_meta m.copy_node p o s)) (sym (seen_read m f.flags_long p))
         go false = refl
 
   -- Two subports that are named.
@@ -152,7 +152,7 @@ module _ {m : MultiPortGraph} {M : Model} (f : Fine m M) where
         told : (w : Port) → seen m q ≡ w →
             both (second_seen m.multiport m.graph.port_link m.graph.port_meta m.copy_node q r x d w)
             ≡ both (second_end m.multiport m.graph.port_link m.graph.port_meta m.copy_node q r x d)
-        told w e = ap (λ (v : Port). both (second_seen m.multiport m.graph.port_link m.graph.port_meta m.copy_node q r x d v)) (sym e ∙ sym (seen_read f q))
+        told w e = ap (λ (v : Port). both (second_seen m.multiport m.graph.port_link m.graph.port_meta m.copy_node q r x d v)) (sym e ∙ sym (seen_read m f.flags_long q))
 
         go : (w : Port) → seen m q ≡ w → (w ≡ hidden → ⊥) → link_first_end m p o q r w (inner x) ≡ both (second_end m.multiport m.graph.port_link m.graph.port_meta m.copy_node q r x d)
         go dead e h = told dead e
@@ -189,7 +189,7 @@ module _ {m : MultiPortGraph} {M : Model} (f : Fine m M) where
         go true false = refl
         go true true =
             both_by (seen m p) (seen m q) refl refl
-            ∙ (λ i. both (both_seen m.multiport m.graph.port_link m.graph.port_meta m.copy_node p o q r (sym (seen_read f p) i) (sym (seen_read f q) i)))
+            ∙ (λ i. both (both_seen m.multiport m.graph.port_link m.graph.port_meta m.copy_node p o q r (sym (seen_read m f.flags_long p) i) (sym (seen_read m f.flags_long q) i)))
 
 -- Two ports that are linked.
 
@@ -255,7 +255,7 @@ module _ {m : MultiPortGraph} (w : MultiWf m) where
   clean_of_pair : (a b : ℕ) → link_clean_if false present m a b ≡ link_clean_by present m a b (pair_named m.graph.port_meta m.copy_node a b)
   unfolding pair_named
   clean_of_pair a b =
-      link_clean_cases present m a b ∙ (λ i. link_clean_by present m a b (pair_seen a b (sym (seen_read w.fine a) i) (sym (seen_read w.fine b) i)))
+      link_clean_cases present m a b ∙ (λ i. link_clean_by present m a b (pair_seen a b (sym (seen_read m w.fine.flags_long a) i) (sym (seen_read m w.fine.flags_long b) i)))
 
   pub clean_done : (a b : ℕ) {e v : Result (Unit {0}) Refusal} {l : PortsLinked} → e ≡ pair_named m.graph.port_meta m.copy_node a b → e ≡ v →
       l ≡ link_clean_by present m a b v → l ≡ link_clean_if false present m a b
@@ -263,7 +263,7 @@ module _ {m : MultiPortGraph} (w : MultiWf m) where
 
 -- how a port number is seen by the tables, and by the graph
 pub seen_as_lem : {m : MultiPortGraph} (w : MultiWf m) (p : ℕ) {s : SeenPort} → s ≡ seen_as (seen_in m.graph.port_meta m.copy_node p) → s ≡ seen_as (seen m p)
-seen_as_lem w p e = e ∙ ap seen_as (seen_read w.fine p)
+seen_as_lem {m = m} w p e = e ∙ ap seen_as (seen_read m w.fine.flags_long p)
 
 -- both ends are prepared, and linked in the tables
 module _ {m : MultiPortGraph} {a b : ℕ} {d e : Direction} (both : BothOnBlock m a d b e) {r s : Prepared}

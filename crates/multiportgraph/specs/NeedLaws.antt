@@ -19,7 +19,7 @@ use Rattle.port_tables.specs.ResizeLinks.{BlockFits, round_up}
 use Rattle.portgraph.specs.ResizeSteps.{round_up_is_least, round_up_positive}
 use Rattle.portgraph.specs.LookupSteps.{found_block_fits, side_fits}
 use Rattle.portgraph.specs.GoodSlots.{zero_is_not_one, upd_same, upd_other}
-use Rattle.portgraph.specs.Model.{Model, Wf, Holds, Chain, NodeChain, number_of_first, slot_of, count_of}
+use Rattle.portgraph.specs.Model.{Model, Holds, Chain, NodeChain, number_of_first, slot_of, count_of}
 use Rattle.portgraph.specs.PlaceLaws.{meta_of_node}
 use Rattle.portgraph.specs.declared.portgraph.PortGraph.{PortGraph}
 use Rattle.port_tables.specs.NodeTable.{slot_in}
@@ -34,7 +34,8 @@ use Rattle.multiportgraph.specs.Space.{Room, room_of, Work, give_block, block_ta
 use Rattle.multiportgraph.specs.SpaceLaws.{overfull, overflows_at_end, after_append, overflows_append, room_is, PreparedSpace, prepare_seen_space}
 use Rattle.multiportgraph.specs.Ends.{BlockPort, block_seen, split_has_copy}
 use Rattle.multiportgraph.specs.PrepareLaws.{prepare_law, prepare_again}
-use Rattle.multiportgraph.specs.PrepareSteps.{lower_wf, lowest_same}
+use Rattle.multiportgraph.specs.CallSteps.{lower_wf}
+use Rattle.multiportgraph.specs.PrepareSteps.{lowest_same}
 use Rattle.multiportgraph.specs.LinkSteps.{others_stay}
 use Rattle.multi_tables.specs.TableReads.{far_in, owner_in}
 use Rattle.multiportgraph.specs.TableReadLaws.{mark_told, owner_read}
@@ -210,9 +211,6 @@ takes_small u f e = let s = go u f in let q = ap (λ (v : Takes). v.take) e in o
 
 -- read off the tables
 module _ (m : MultiPortGraph) {p : ℕ} {d : Direction} (b : OnBlock m p d) where
-  long : Wf m.graph
-  long = lower_wf m b.wf
-
   pub need_read : need_in m p d ≡ need_of m p d
   unfolding need_in need_of
   need_read = go (is_split m p) refl

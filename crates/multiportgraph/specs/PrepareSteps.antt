@@ -13,7 +13,7 @@ use Rattle.port_tables.specs.Tables.{at}
 use Rattle.portgraph.specs.Lookups.{num_ports}
 use Rattle.portgraph.specs.Calls.{add_found, find_slot, find_block, add_node, add_node_under}
 use Rattle.portgraph.specs.Resize.{Plan, refuse, same, inside, anew, plan_of, set_by, set_num_ports, set_num_ports_under}
-use Rattle.portgraph.specs.Model.{Wf, Far, nowhere, to, Slots, gone, live, Valid, slot_of, count_of, ports_of}
+use Rattle.portgraph.specs.Model.{Far, nowhere, to, Slots, gone, live, Valid, slot_of, count_of, ports_of}
 use Rattle.portgraph.specs.PlaceLaws.{link_none, link_to}
 use Rattle.portgraph.specs.Sums.{total_bound}
 use Rattle.port_tables.specs.declared.direction.Direction.{Direction}
@@ -37,9 +37,6 @@ use Rattle.multi_tables.specs.declared.answers.Refusal.TheVariants.{NoRoom}
 use Rattle.port_tables.specs.Listing.{flag_small}
 
 -- What a graph of the calls keeps small.
-
-pub lower_wf : (m : MultiPortGraph) → MultiWf m → Wf m.graph
-lower_wf m w = record { model = w.model; good = w.fine.good; holds = w.fine.holds }
 
 pub few_copies : (m : MultiPortGraph) → MultiWf m → m.copy_node_count ≤ node_slots
 few_copies m w =
@@ -122,16 +119,19 @@ set_kept g n i o room {a} e none = go (plan_of g n i o room) e
     go (anew k f) h = absurd (none _ h)
 
 -- Splitting.
+
+-- what adding a node gives, with other counts that are the same
+pub added_is : (m : MultiPortGraph) {i o i' o' : ℕ} {g : PortGraph} {r : Result (NodeIndex × PortIndex) AddError} → i ≡ i' → o ≡ o' → g ≡ (add_node m.graph i o).graph → r ≡ (add_node m.graph i o).answer
+    → ◌≡◌ {A = NodeAdded} (record { graph = g; answer = r }) (add_node m.graph i' o')
+added_is m e₁ e₂ e₃ e₄ = (λ j. record { graph = e₃ j; answer = e₄ j }) ∙ (λ j. add_node m.graph (e₁ j) (e₂ j))
+
 module _ (m : MultiPortGraph) (p : ℕ) (d : Direction) {i o : ℕ} {g : PortGraph} {r : Result (NodeIndex × PortIndex) AddError} (e₁ : i ≡ copy_incoming d) (e₂ : o ≡ copy_outgoing d)
     (e₃ : g ≡ (add_node m.graph i o).graph) (e₄ : r ≡ (add_node m.graph i o).answer) where
-  added_is : ◌≡◌ {A = NodeAdded} (record { graph = g; answer = r }) (add_node m.graph (copy_incoming d) (copy_outgoing d))
-  added_is = (λ j. record { graph = e₃ j; answer = e₄ j }) ∙ (λ j. add_node m.graph (e₁ j) (e₂ j))
-
   pub split_full : ((x : NodeIndex × PortIndex) → r ≡ Ok x → ⊥) → ◌≡◌ {A = Prepared} (with_graph m g, Err NoRoom) (prepared_as m (split m p d))
   unfolding split_under
   split_full none =
       ap (λ (v : PortGraph). (with_graph m v, Err NoRoom)) (e₃ ∙ add_kept m.graph i o e₄ none)
-      ∙ (go r none ∙ (λ j. prepared_as m (split_by m p d (added_is j).graph (added_is j).answer)))
+      ∙ (go r none ∙ (λ j. prepared_as m (split_by m p d (added_is m e₁ e₂ e₃ e₄ j).graph (added_is m e₁ e₂ e₃ e₄ j).answer)))
     where
       go : (a : Result (NodeIndex × PortIndex) AddError) → ((x : NodeIndex × PortIndex) → a ≡ Ok x → ⊥) → ◌≡◌ {A = Prepared} (m, Err NoRoom) (prepared_as m (split_by m p d g a))
       go (Ok x) n = absurd (n x refl)

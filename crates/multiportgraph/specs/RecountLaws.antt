@@ -8,7 +8,6 @@ use Rattle.std.proofs.Math.Bool.{true, false}
 use mathlib.Core.List.{List}
 use native.Mathlib.Omega.{arith}
 use Rattle.std.proofs.Math.ListN.{get_or}
-use Rattle.std.proofs.lemmas.Bool.{lt-leb}
 use Rattle.port_tables.specs.Limits.{node_slots, port_slots, node_ports}
 use Rattle.port_tables.specs.Entries.{reversed, ports_on, new_count, meta_of}
 use Rattle.portgraph.specs.Lookups.{num_ports}
@@ -19,13 +18,13 @@ use Rattle.portgraph.specs.Meaning.{upd, drop_join, beyond, growth, next_block, 
 use Rattle.portgraph.specs.Resize.{refuse, same, inside, anew, set_by, set_num_ports, resize_inside, resize_anew}
 use Rattle.port_tables.specs.ResizeLinks.{round_up, same_counts, fits_inside}
 use Rattle.portgraph.specs.ResizeSteps.{round_up_reaches, round_up_positive, round_up_fits, fits_below}
-use Rattle.portgraph.specs.ResizeLaws.{plan_slots, plan_where, set_law}
+use Rattle.portgraph.specs.ResizeLaws.{plan_slots, plan_where, set_law, Kept, kept_link}
 use Rattle.portgraph.specs.SlotHolds.{block_room}
 use Rattle.portgraph.specs.InsideHolds.{inside_holds}
 use Rattle.portgraph.specs.AnewHolds.{anew_holds}
 use Rattle.portgraph.specs.GoodLaws.{good_resize, good_move}
 use Rattle.portgraph.specs.GoodSlots.{zero_is_not_one, block_of_one, upd_same, upd_other, joined_is_valid, slots_apart, same_place_lem, ports_end, node_below}
-use Rattle.portgraph.specs.Sums.{drop_nowhere, drop_kept, total_one}
+use Rattle.portgraph.specs.Sums.{drop_nowhere, total_one}
 use Rattle.portgraph.specs.PlaceLaws.{meta_of_node, port_index_is}
 use Rattle.port_tables.specs.declared.direction.Direction.{Direction}
 use Rattle.port_tables.specs.declared.direction.Direction.TheVariants.{Incoming, Outgoing}
@@ -39,7 +38,7 @@ use Rattle.multiportgraph.specs.WellFormed.{inner#, copy_place, Fine, Marked, co
 use Rattle.multiportgraph.specs.Needs.{need_of}
 use Rattle.multiportgraph.specs.NeedStays.{alike_same, need_alike}
 use Rattle.multiportgraph.specs.Ends.{Hangs, other_side, side_cases, count_of_lem, copy_valid, end_side, ends_join_ends, outer_apart}
-use Rattle.multiportgraph.specs.HiddenStays.{copy_side_is, same_copy, true_not_false, wire_again}
+use Rattle.multiportgraph.specs.HiddenStays.{copy_side_is, same_copy, true_not_false, wire_again, same_slot}
 use Rattle.multiportgraph.specs.SplitLaws.{KeptEnd, PreparedEnd}
 use Rattle.multiportgraph.specs.declared.multiportgraph.MultiPortGraph.{MultiPortGraph}
 use Rattle.port_tables.specs.Places.{Wire, flag}
@@ -68,6 +67,13 @@ pub record SomeRecount (g' : PortGraph) (M : Model) (n incoming outgoing : ℕ) 
   pub new : NodeMeta
   pub is : Recount g' M model' n old new incoming outgoing
 
+-- the node's block before was the one that it is known to have
+pub recount_of : {g' : PortGraph} {M : Model} {n i o : ℕ} (s : SomeRecount g' M n i o) (k : NodeMeta) → M.node n ≡ live k → Recount g' M s.model' n k s.new i o
+recount_of {g'} {M} {n} {i} {o} s k here = go s.old s.is.here s.is
+  where
+    go : (a : NodeMeta) → M.node n ≡ live a → Recount g' M s.model' n a s.new i o → Recount g' M s.model' n k s.new i o
+    go a there r = let same : a ≡ k = cc in subst (λ (c : NodeMeta). Recount g' M s.model' n c s.new i o) same r
+
 pub same_counts_are : (m : NodeMeta) (i o : ℕ) → same_counts m i o ≡ true → (m.incoming ≡ i) × (m.outgoing ≡ o)
 unfolding same_counts
 same_counts_are m i o = go (eqb i m.incoming) (eqb o m.outgoing) refl refl
@@ -76,14 +82,6 @@ same_counts_are m i o = go (eqb i m.incoming) (eqb o m.outgoing) refl refl
     go true true p q e = (sym (eqb-true _ _ p), sym (eqb-true _ _ q))
     go true false p q e = absurd (zero_is_not_one (cc))
     go false b p q e = absurd (zero_is_not_one (cc))
-
--- a place with a port below the counts is not dropped
-pub below_stays : (n i o : ℕ) (x : model.InnerPlace) → (x.node ≡ n → x.pos < new_count i o x.side) → beyond n i o x ≡ false
-below_stays n i o x h = go (eqb x.node n) refl
-  where
-    go : (b : Bool) → eqb x.node n ≡ b → cond b (leb (new_count i o x.side) x.pos) false ≡ false
-    go true e = lt-leb (new_count i o x.side) x.pos (h (eqb-true x.node n e))
-    go false e = refl
 
 pub stays_below : (n i o : ℕ) (x : model.InnerPlace) → beyond n i o x ≡ false → x.node ≡ n → x.pos < new_count i o x.side
 stays_below n i o x e h = leb-false (new_count i o x.side) x.pos (sym (rw (eq-eqb x.node n h)) ∙ e)
@@ -119,16 +117,16 @@ module _ {g : PortGraph} {M : Model} (good : Good M) (holds : Holds g M) (n i o 
             };
           }
         where
-          below : (a.incoming ≡ i) × (a.outgoing ≡ o) → (x : model.InnerPlace) → Valid M.node x → beyond n i o x ≡ false
-          below c x v = below_stays n i o x (λ h.
+          below : (a.incoming ≡ i) × (a.outgoing ≡ o) → (x : model.InnerPlace) → Valid M.node x → Kept n i o x
+          below c x v h =
               let e : M.node x.node ≡ live a = ap M.node h ∙ here in
               let k : count_of (M.node x.node) x.side ≡ new_count i o x.side = ap (λ (s : Slots). count_of s x.side) e ∙ count_new a i o x.side c.0 c.1 in
-              omega arith)
+              omega arith
 
           stay : (a.incoming ≡ i) × (a.outgoing ≡ o) → (x : model.InnerPlace) (w : Far) → M.join x ≡ w → M.join x ≡ drop_join (beyond n i o) M.join x
           stay c x nowhere j = j ∙ sym (drop_nowhere (beyond n i o) M.join x j)
           stay c x (to y) j =
-              j ∙ sym (drop_kept (beyond n i o) M.join x y j (below c x (good.join_valid x y j)) (below c y (joined_is_valid good x y j)))
+              j ∙ sym (kept_link M.join n i o x y j (below c x (good.join_valid x y j)) (below c y (joined_is_valid good x y j)))
 
       changed : (a : NodeMeta) → M.node n ≡ live a → (first capacity : ℕ) (g' : PortGraph) (M' : Model) → M'.node ≡ upd M.node n (live (meta_of first i o capacity)) → M'.join ≡ drop_join (beyond n i o) M.join
           → Good M' → Holds g' M' → SomeRecount g' M n i o
@@ -280,7 +278,7 @@ module _ {m : MultiPortGraph} {M : Model} (f : Fine m M) {g' : PortGraph} {M' : 
 
   -- places of other nodes have their slots
   pub other_slot : (x : model.InnerPlace) → (x.node ≡ n → ⊥) → slot_of M'.node x ≡ slot_of M.node x
-  other_slot x h = ap (λ (s : Slots). slot_on_side s x.side x.pos) (r.others x.node h)
+  other_slot x h = same_slot M M' x (r.others x.node h)
 
   pub other_count : (k : ℕ) (d : Direction) → (k ≡ n → ⊥) → count_of (M'.node k) d ≡ count_of (M.node k) d
   other_count k d h = ap (λ (s : Slots). count_of s d) (r.others k h)
@@ -469,11 +467,11 @@ module _ {m : MultiPortGraph} {M : Model} (f : Fine m M) (x : model.InnerPlace) 
       (λ e. let p = other_count f r y.node y.side e in let v = f.good.join_valid y z j in omega arith)
       (cases_eq y.node h.copy)
 
-  linked_stays : (y z : model.InnerPlace) → M.join y ≡ to z → beyond h.copy i o y ≡ false
-  linked_stays y z j = below_stays h.copy i o y (λ e.
+  linked_stays : (y z : model.InnerPlace) → M.join y ≡ to z → Kept h.copy i o y
+  linked_stays y z j e =
       let l = linked_below y z j e in
       let q = count_new b i o y.side r.ins r.outs in
-      omega arith)
+      omega arith
 
   pub recount_joins : (y : model.InnerPlace) → M'.join y ≡ M.join y
   recount_joins y = r.join y ∙ go (M.join y) refl
@@ -481,7 +479,7 @@ module _ {m : MultiPortGraph} {M : Model} (f : Fine m M) (x : model.InnerPlace) 
       go : (w : Far) → M.join y ≡ w → drop_join (beyond h.copy i o) M.join y ≡ M.join y
       go nowhere j = drop_nowhere (beyond h.copy i o) M.join y j ∙ sym j
       go (to z) j =
-          drop_kept (beyond h.copy i o) M.join y z j (linked_stays y z j) (linked_stays z y (f.good.join_back y z j)) ∙ sym j
+          kept_link M.join h.copy i o y z j (linked_stays y z j) (linked_stays z y (f.good.join_back y z j)) ∙ sym j
 
   pub recount_hidden : (k : ℕ) → is_hidden (counted m h.copy g' subs) k ≡ is_hidden m k
   unfolding is_hidden recounted

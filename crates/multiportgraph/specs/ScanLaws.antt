@@ -2,12 +2,13 @@
 -- them, and what stands beyond a port and offset is the rest of that port's items, then the items of the later ports.
 use Rattle.std.specs.Prelude.{◌≡◌, Bool, ℕ, zero, suc, ◌+◌, ◌-◌, ◌≤◌, ◌<◌, max, min, eqb, leb, ltb, Option, Some, None, Result, Ok, Err}
 use Rattle.std.proofs.Math.Path.{refl, sym, ap}
+use Rattle.std.specs.Option.{option_map_or}
 use Rattle.std.proofs.Common.{◌∙◌, inl, inr, arith, lt-ltb, le-ltb, le-leb, eq-eqb, ne_eqb, ltb-true, ltb-false, leb-true, leb-false}
 use Rattle.std.proofs.Math.Bool.{true, false, cond}
 use mathlib.Core.List.{List, [], ◌∷◌, ◌++◌, append_assoc, append-nil, flat_map, map}
 use Rattle.std.proofs.lemmas.Bool.{lt-leb, eqb-false}
 use Rattle.port_tables.specs.Limits.{port_slots}
-use Rattle.port_tables.specs.Lists.{range, Member}
+use Rattle.port_tables.specs.Lists.{range, on_first, on_last, Member}
 use Rattle.std.specs.List.{filter}
 use Rattle.port_tables.specs.Entries.{ports_on, port#, ports_from, ports_to}
 use Rattle.portgraph.specs.Lookups.{meta_at, contains_node, count_in, start_of, port_in, is_some}
@@ -29,7 +30,7 @@ use Rattle.port_tables.specs.Listing.{member_map, member_flat_map, member_range,
 use Rattle.multiportgraph.specs.declared.multiportgraph.MultiPortGraph.{MultiPortGraph}
 use Rattle.multi_tables.specs.declared.answers.SubportIndex.{SubportIndex}
 use Rattle.multi_tables.specs.declared.answers.SubportLink.{SubportLink}
-use Rattle.multi_tables.specs.Scans.{end_before}
+use Rattle.multi_tables.specs.Scans.{end_before, first_found}
 use Rattle.multi_tables.specs.declared.answers.Refusal.{Refusal}
 use Rattle.multi_tables.specs.declared.answers.PortPlace.{PortPlace}
 use Rattle.std.proofs.lemmas.List.Elements.{filter-append}
@@ -98,6 +99,44 @@ module _ {A B : Type 0} where
       go : (a : List B) → flat_map g (a ++ flat_map f l) ≡ flat_map g a ++ flat_map g (flat_map f l)
       go [] = refl
       go (y ∷ a) = ap (λ (r : List C). g y ++ r) (go a) ∙ sym (append_assoc (g y) (flat_map g a) (flat_map g (flat_map f l)))
+
+-- the first and the last of a list, read in another form
+module _ {S T : Type 0} (g : S → T) where
+  pub first_map : {A : Type 0} (e : S) (f : A → S) (l : List A) → g (on_first e f l) ≡ on_first (g e) (λ x. g (f x)) l
+  unfolding on_first
+  first_map e f [] = refl
+  first_map e f (x ∷ l) = refl
+
+  pub last_map : {A : Type 0} (e : S) (f : A → S) (l : List A) → g (on_last e f l) ≡ on_last (g e) (λ x. g (f x)) l
+  unfolding on_last
+  last_map e f [] = refl
+  last_map e f (x ∷ l) = last_map (f x) f l
+
+  -- where a step ends unless a test holds
+  pub first_if : {A : Type 0} (b : Bool) (e : S) (f : A → S) (l : List A) → g (cond b (on_first e f l) e) ≡ on_first (g e) (λ x. g (f x)) (cond b l [])
+  unfolding on_first
+  first_if true e f l = first_map e f l
+  first_if false e f l = refl
+
+-- what a step makes of the item that was found, or of none, it makes of the first or the last of the list
+module _ {A B : Type 0} (end : B) (item : A → B) {r : Option A} (l : List A) where
+  pub first_told : r ≡ on_first None Some l → option_map_or item r end ≡ on_first end item l
+  first_told e = ap (λ (o : Option A). option_map_or item o end) e ∙ first_map (λ (o : Option A). option_map_or item o end) None Some l
+
+  pub last_told : r ≡ on_last None Some l → option_map_or item r end ≡ on_last end item l
+  last_told e = ap (λ (o : Option A). option_map_or item o end) e ∙ last_map (λ (o : Option A). option_map_or item o end) None Some l
+
+  pub found_told : r ≡ first_found l → option_map_or item r end ≡ on_first end item l
+  unfolding first_found on_first
+  found_told e = first_told (e ∙ go l)
+    where
+      go : (l : List A) → first_found l ≡ on_first None Some l
+      go [] = refl
+      go (x ∷ l) = refl
+
+-- and where the list is read only if a test holds
+pub found_if : {A B : Type 0} (end : B) (item : A → B) {r : Option A} (b : Bool) (l : List A) → r ≡ first_found (cond b l []) → option_map_or item r end ≡ cond b (on_first end item l) end
+found_if {B = B} end item b l e = found_told end item (cond b l []) e ∙ sym (first_if (λ (x : B). x) b end item l)
 
 -- the order of two tests does not matter
 pub filter_swap : {A : Type 0} (t u : A → Bool) (l : List A) → filter t (filter u l) ≡ filter u (filter t l)

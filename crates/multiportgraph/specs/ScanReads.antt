@@ -30,7 +30,7 @@ use Rattle.port_tables.specs.declared.port_entry.PortEntry.TheVariants as port_v
 use Rattle.multiportgraph.specs.Reading.{is_hidden, is_split, seen, subports, subport_at, end_at, link_of_end}
 use Rattle.multi_tables.specs.Forms.{Port, dead, hidden, visible, End, inner, lacking, subport#, flag_at, wire_to}
 use Rattle.multiportgraph.specs.WellFormed.{MultiWf}
-use Rattle.multiportgraph.specs.Ends.{block_seen}
+use Rattle.multiportgraph.specs.Ends.{block_seen, end_of_unsplit}
 use Rattle.multi_tables.specs.TableReads.{far_in, count_beside, first_beside, end_beside, first_in, end_in, wire_in}
 use Rattle.multiportgraph.specs.TableReadLaws.{seen_read, subports_read, end_read_off, wire_read, end_is_port, flag_told, mark_told}
 use Rattle.multiportgraph.specs.Wires.{is_block, blocks, wire_of, side_links, all_wires, is_beyond, wires_beyond}
@@ -106,10 +106,6 @@ module _ (m : MultiPortGraph) (w : MultiWf m) where
       unfolding end_at
       end_of_split t = let e = count_split t in rw (t, lt-ltb o (subports m p d) (omega arith))
 
-      end_of_plain : is_split m p ≡ false → end_at m p d o ≡ inner p
-      unfolding end_at
-      end_of_plain t = rw t
-
       end_beside_lem : is_split m p ≡ true → end_beside m.graph.port_meta (far_in m.graph.port_link p) d o ≡ inner (subport_at m p d o)
       unfolding end_in
       end_beside_lem t =
@@ -137,10 +133,10 @@ module _ (m : MultiPortGraph) (w : MultiWf m) where
               end_of_split t ∙ ap inner g
           go false t =
               let e = count_plain t in
-              let i = inner_inside o p (end_of_plain t) in
+              let i = inner_inside o p (end_of_unsplit w.fine p d o t) in
               let f = first_of_plain t in
               let g : p ≡ first + o = omega arith in
-              end_of_plain t ∙ ap inner g
+              end_of_unsplit w.fine p d o t ∙ ap inner g
 
     -- the slot of the first end, where there is one
     pub first_subport : is_split m p ≡ true → 0 < count → first ≡ first_beside m.graph.port_meta (far_in m.graph.port_link p) d
@@ -201,23 +197,23 @@ module _ (m : MultiPortGraph) (w : MultiWf m) where
   port_links_read p = go (seen m p) refl
     where
       go : (s : Port) → seen m p ≡ s → table_links p 0 ≡ port_links m p
-      go dead e = rw (seen_read w.fine p, e)
-      go hidden e = rw (seen_read w.fine p, e)
+      go dead e = rw (seen_read m w.fine.flags_long p, e)
+      go hidden e = rw (seen_read m w.fine.flags_long p, e)
       go (visible n d) e =
           let f = links_whole p n d e in
           let z : count p n d e - 0 ≡ count p n d e = omega arith in
-          rw (seen_read w.fine p, e, z) (sym f ∙ ap (port_links_seen m p) e)
+          rw (seen_read m w.fine.flags_long p, e, z) (sym f ∙ ap (port_links_seen m p) e)
 
   past_none : (p o : ℕ) (s : Port) → seen m p ≡ s → port_links_seen m p s ≡ [] → port_links_by m.multiport m.graph.port_link m.graph.port_meta m.copy_node p (suc o) s ≡ []
       → table_links p (suc o) ≡ filter (link_past o) (port_links m p)
   unfolding port_links_in port_links
-  past_none p o s e f g = rw (seen_read w.fine p, e, f, g)
+  past_none p o s e f g = rw (seen_read m w.fine.flags_long p, e, f, g)
 
   past_some : (p o n : ℕ) (d : Direction) → seen m p ≡ visible n d → table_links p (suc o) ≡ filter (link_past o) (port_links m p)
   unfolding port_links_in
   past_some p o n d e =
       let r = links_under p n d e (ltb o) (suc o) (count p n d e - suc o) (offsets_past o (count p n d e)) in
-      rw (seen_read w.fine p, e) (sym r)
+      rw (seen_read m w.fine.flags_long p, e) (sym r)
 
   -- those beyond an offset
   pub port_links_past : (p o : ℕ) → table_links p (suc o) ≡ filter (link_past o) (port_links m p)

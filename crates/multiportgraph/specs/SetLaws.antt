@@ -1,31 +1,26 @@
 -- Other counts for a block: the lower resize leaves the hidden nodes of dropped ports hanging on nothing (`Loose`), and they go
 -- one after the other. Every wire at a dropped position goes, all others stay.
 use Rattle.std.proofs.lemmas.Bool.{cases_eq}
-use Rattle.std.specs.Prelude.{◌≡◌, Bool, ◌||◌, List, [], ◌∷◌, ◌++◌, ◌⊎◌, leb, set, length, Option, Some, None, Ok, Err, Result}
+use Rattle.std.specs.Prelude.{◌≡◌, Bool, ◌||◌, List, [], ◌∷◌, ◌++◌, ◌⊎◌, leb, length, Option, Some, None, Ok, Err, Result}
 use Rattle.std.proofs.Math.Path.{refl, sym, ap, subst}
-use Rattle.std.proofs.Common.{◌∙◌, inl, inr, leb-true, leb-false, ne_eqb}
+use Rattle.std.proofs.Common.{◌∙◌, inl, inr, leb-true, leb-false}
 use Rattle.std.proofs.Math.Bool.{true, false, cond}
 use Rattle.std.proofs.Math.Logic.{⊎_elim}
 use Prim.Native.Nat.{ℕ, zero, suc, ◌+◌, ◌-◌, ◌≤◌, ◌<◌, min}
 use native.Mathlib.Omega.{arith}
-use Rattle.std.proofs.Math.ListN.{length-set}
-use Rattle.std.proofs.Math.Seq.{get_or-set_same, get_or-set_other}
-use Rattle.std.proofs.lemmas.Bool.{eqb-false}
 use Rattle.port_tables.specs.Limits.{node_slots, port_slots, node_ports, present}
 use Rattle.port_tables.specs.Lists.{Member, Once}
-use Rattle.port_tables.specs.Entries.{reversed, ports_on, new_count}
-use Rattle.portgraph.specs.Lookups.{meta_at, num_ports, count_in}
+use Rattle.port_tables.specs.Entries.{ports_on, new_count}
+use Rattle.portgraph.specs.Lookups.{meta_at}
 use Rattle.portgraph.specs.Model as model
 use Rattle.portgraph.specs.Model.{Model, Far, nowhere, to, Slots, gone, live, Good, Holds, Valid, slot_of, count_of, ports_of, total}
 use Rattle.port_tables.specs.Tables.{Within}
 use Rattle.portgraph.specs.Meaning.{beyond, at_node, remove_model}
-use Rattle.portgraph.specs.Calls.{remove_node}
 use Rattle.portgraph.specs.Resize.{set_num_ports}
-use Rattle.portgraph.specs.declared.alloc.NodeRemoved.{NodeRemoved}
-use Rattle.portgraph.specs.SlotHolds.{remove_law, remove_slots, free_holds}
+use Rattle.portgraph.specs.ResizeLaws.{kept_stays, kept_link}
 use Rattle.portgraph.specs.GoodLaws.{good_remove}
-use Rattle.portgraph.specs.GoodSlots.{zero_is_not_one, gone_not_live, upd_same, upd_other, joined_is_valid, slots_apart, slot_in_range, node_below}
-use Rattle.portgraph.specs.Sums.{drop_there, drop_nowhere, drop_kept, drop_joined, total_one, total_same}
+use Rattle.portgraph.specs.GoodSlots.{zero_is_not_one, gone_not_live, upd_same, joined_is_valid, slots_apart}
+use Rattle.portgraph.specs.Sums.{drop_there, drop_nowhere, drop_joined, total_same}
 use Rattle.portgraph.specs.PlaceLaws.{meta_of_node, node_of_meta, port_index_is}
 use Rattle.port_tables.specs.declared.direction.Direction.{Direction}
 use Rattle.port_tables.specs.declared.direction.Direction.TheVariants.{Incoming, Outgoing}
@@ -36,7 +31,8 @@ use Rattle.multiportgraph.specs.Calls.{set_as, set_counts}
 use Rattle.multiportgraph.specs.WellFormed.{inner#, copy_place, Fine, Marked, copy_port, main_port_lem, BlockIs, Seen, outer, IsEnd, Wiring, subports_of_slot}
 use Rattle.multiportgraph.specs.Ends.{Hangs, hangs, one_copy, split_has_copy, copy_valid, main_seen, outer_of_subport, outer_of_block}
 use Rattle.multiportgraph.specs.HiddenStays.{copy_side_is, same_copy, same_wire, true_not_false, wire_again}
-use Rattle.multiportgraph.specs.RecountLaws.{Recount, SomeRecount, set_recounts, below_stays, stays_below, count_new, slot_on_side, PlaceAt, place_among, WasMarked, Shape, recount_marks, marked_was, marks_long_lem, other_count, count_at, both_sides}
+use Rattle.multiportgraph.specs.RecountLaws.{Recount, SomeRecount, set_recounts, recount_of, stays_below, count_new, slot_on_side, PlaceAt, place_among, WasMarked, Shape, recount_marks, marked_was, marks_long_lem, other_count, count_at}
+use Rattle.multiportgraph.specs.CopyLaws.{hidden_other, hidden_not_copy, still_hidden, split_other, split_copy, still_split, marks_left, flags_left, node_other, join_other, join_was, holds_left, copies_left, subs_left}
 use Rattle.multiportgraph.specs.declared.multiportgraph.MultiPortGraph.{MultiPortGraph}
 use Rattle.multiportgraph.specs.declared.multiportgraph.PortsSet.{PortsSet}
 use Rattle.multi_tables.specs.declared.answers.Refusal.{Refusal}
@@ -299,9 +295,15 @@ module _ {m : MultiPortGraph} {M : Model} (c : ℕ) (cs : List ℕ) (l : Loose m
   copy_there : Valid M.node (copy_place m c)
   copy_there = copy_is_there l c is_hidden_lem
 
-  port_there : port_of m.graph c (copy_side m c) 0 ≡ slot_of M.node (copy_place m c)
+  abbrev own : ℕ
+  own = port_of m.graph c (copy_side m c) 0
+
+  port_there : own ≡ slot_of M.node (copy_place m c)
   unfolding port_of
   port_there = ap port_number (port_index_is l.good l.holds (copy_place m c) copy_there)
+
+  abbrev without_lone : MultiPortGraph
+  without_lone = remove_copy m own c
 
   abbrev lone : Model
   lone = remove_model M c meta_there
@@ -309,145 +311,62 @@ module _ {m : MultiPortGraph} {M : Model} (c : ℕ) (cs : List ℕ) (l : Loose m
   lone_good : Good lone
   lone_good = good_remove l.good c meta_there here_there
 
-  lone_holds : Holds (remove_lone m c).graph lone
-  unfolding remove_lone remove_copy
-  lone_holds =
-      let e : remove_node m.graph c ≡ remove_slots m.graph c (live meta_there) = remove_law l.holds c ∙ ap (remove_slots m.graph c) here_there in
-      subst (λ (q : NodeRemoved). Holds q.graph lone) (sym e) (free_holds l.good l.holds c meta_there here_there)
-
-  -- nodes
-  lone_gone : lone.node c ≡ gone
-  lone_gone = upd_same M.node c gone
-
-  lone_other : (k : ℕ) → (k ≡ c → ⊥) → lone.node k ≡ M.node k
-  lone_other k h = upd_other M.node c gone k h
+  lone_holds : Holds without_lone.graph lone
+  lone_holds = holds_left m l.good l.holds own c meta_there here_there
 
   lone_slot : (x : model.InnerPlace) → (x.node ≡ c → ⊥) → slot_of lone.node x ≡ slot_of M.node x
-  lone_slot x h = ap (λ (s : Slots). slot_on_side s x.side x.pos) (lone_other x.node h)
-
-  -- hidden nodes
-  lone_hidden : (k : ℕ) → (k ≡ c → ⊥) → is_hidden (remove_lone m c) k ≡ is_hidden m k
-  unfolding is_hidden remove_lone remove_copy
-  lone_hidden k h = get_or-set_other m.copy_node c k false false h
-
-  lone_shown : is_hidden (remove_lone m c) c ≡ false
-  unfolding is_hidden remove_lone remove_copy
-  lone_shown =
-      let u = node_below l.good c meta_there here_there in
-      let w = l.flags_long in
-      get_or-set_same m.copy_node c false false (omega arith)
-
-  -- marks
-  lone_mark : (s : ℕ) → (s ≡ slot_of M.node (copy_place m c) → ⊥) → is_split (remove_lone m c) s ≡ is_split m s
-  unfolding is_split remove_lone remove_copy
-  lone_mark s h =
-      let e = port_there in
-      get_or-set_other (set m.multiport (port_of m.graph c (copy_side m c) 0) false) (port_of m.graph c (copy_side m c) 0) s false false (λ q. h (q ∙ e))
-      ∙ get_or-set_other m.multiport (port_of m.graph c (copy_side m c) 0) s false false (λ q. h (q ∙ e))
-
-  lone_unmarked : is_split (remove_lone m c) (slot_of M.node (copy_place m c)) ≡ false
-  unfolding is_split remove_lone remove_copy
-  lone_unmarked =
-      let e = port_there in
-      let a = length-set m.multiport (port_of m.graph c (copy_side m c) 0) false in
-      let b = l.marks_long in
-      let d = slot_in_range l.good (copy_place m c) copy_there in
-      rw (← e) (get_or-set_same (set m.multiport (port_of m.graph c (copy_side m c) 0) false) (port_of m.graph c (copy_side m c) 0) false false (omega arith))
-
-  -- links
-  elsewhere : (x : model.InnerPlace) → (x.node ≡ c → ⊥) → at_node c x ≡ false
-  elsewhere x h = ne_eqb x.node c h
-
-  lone_join : (x y : model.InnerPlace) → (x.node ≡ c → ⊥) → (y.node ≡ c → ⊥) → M.join x ≡ to y → lone.join x ≡ to y
-  lone_join x y h k j = drop_kept (at_node c) M.join x y j (elsewhere x h) (elsewhere y k)
-
-  lone_joined : (x y : model.InnerPlace) → lone.join x ≡ to y → (M.join x ≡ to y) × (x.node ≡ c → ⊥) × (y.node ≡ c → ⊥)
-  lone_joined x y j =
-      let t = drop_joined (at_node c) M.join x y j in
-      (t.0, eqb-false x.node c t.1, eqb-false y.node c t.2)
+  lone_slot x h = ap (λ (s : Slots). slot_on_side s x.side x.pos) (node_other M c meta_there x.node h)
 
   -- the hidden nodes that are left
-  still : (k : ℕ) → is_hidden (remove_lone m c) k ≡ true → (k ≡ c → ⊥) × (is_hidden m k ≡ true)
-  still k h =
-      let ne : (k ≡ c → ⊥) = λ q. true_not_false (sym (ap (is_hidden (remove_lone m c)) q) ∙ h) lone_shown in
-      (ne, sym (lone_hidden k ne) ∙ h)
+  still : (k : ℕ) → is_hidden without_lone k ≡ true → (k ≡ c → ⊥) × (is_hidden m k ≡ true)
+  still k h = (hidden_not_copy m own c k h, still_hidden m own c k h)
 
-  lone_side : (k : ℕ) → (k ≡ c → ⊥) → is_hidden m k ≡ true → copy_side (remove_lone m c) k ≡ copy_side m k
+  lone_side : (k : ℕ) → (k ≡ c → ⊥) → is_hidden m k ≡ true → copy_side without_lone k ≡ copy_side m k
   lone_side k ne h =
       let t = l.shape k h in
-      copy_side_is (remove_lone m c) k t.meta (copy_side m k) (meta_of_node lone_good lone_holds k t.meta (lone_other k ne ∙ t.here)) t.single t.several
+      copy_side_is without_lone k t.meta (copy_side m k) (meta_of_node lone_good lone_holds k t.meta (node_other M c meta_there k ne ∙ t.here)) t.single t.several
 
   -- a place of another node is not at the copy port's slot
   not_there : (x : model.InnerPlace) → Valid M.node x → (x.node ≡ c → ⊥) → slot_of M.node x ≡ slot_of M.node (copy_place m c) → ⊥
   not_there x v ne e = ne (ap (λ (y : model.InnerPlace). y.node) (slots_apart l.good x (copy_place m c) v copy_there e))
 
-  lone_mark_at : (x : model.InnerPlace) → Valid M.node x → (x.node ≡ c → ⊥) → is_split (remove_lone m c) (slot_of lone.node x) ≡ is_split m (slot_of M.node x)
-  lone_mark_at x v ne = ap (is_split (remove_lone m c)) (lone_slot x ne) ∙ lone_mark (slot_of M.node x) (not_there x v ne)
+  lone_mark_at : (x : model.InnerPlace) → Valid M.node x → (x.node ≡ c → ⊥) → is_split without_lone (slot_of lone.node x) ≡ is_split m (slot_of M.node x)
+  lone_mark_at x v ne =
+      let away : slot_of M.node x ≡ own → ⊥ = λ q. not_there x v ne (q ∙ port_there) in
+      ap (is_split without_lone) (lone_slot x ne) ∙ split_other m own c (slot_of M.node x) away away
 
-  lone_only : (s : ℕ) → is_split (remove_lone m c) s ≡ true → Marked (remove_lone m c) lone s
-  lone_only s e = by (l.only_marked s (sym (lone_mark s apart) ∙ e))
+  lone_only : (s : ℕ) → is_split without_lone s ≡ true → Marked without_lone lone s
+  lone_only s e = by (l.only_marked s (still_split m own c s e))
     where
       apart : s ≡ slot_of M.node (copy_place m c) → ⊥
-      apart q = true_not_false e (ap (is_split (remove_lone m c)) q ∙ lone_unmarked)
+      apart q = true_not_false e (ap (is_split without_lone) (q ∙ sym port_there) ∙ split_copy m own c)
 
-      by : Marked m M s → Marked (remove_lone m c) lone s
+      by : Marked m M s → Marked without_lone lone s
       by (copy_port k h q) =
           let ne : (k ≡ c → ⊥) = λ t. apart (sym q ∙ ap (λ (j : ℕ). slot_of M.node (copy_place m j)) t) in
-          copy_port k (lone_hidden k ne ∙ h) (ap (slot_of lone.node) (same_copy (lone_side k ne h)) ∙ lone_slot (copy_place m k) ne ∙ q)
+          copy_port k (hidden_other m own c k ne ∙ h) (ap (slot_of lone.node) (same_copy (lone_side k ne h)) ∙ lone_slot (copy_place m k) ne ∙ q)
       by (main_port_lem k x h j q) =
           let ne : (k ≡ c → ⊥) = λ t. nowhere_not_to free_there (sym (ap (λ (j : ℕ). M.join (copy_place m j)) t) ∙ j) in
           let t = l.hung k h (λ u. nowhere_not_to (l.loose k u).1 j) in
           let d = t.1 in
           let same : t.0 ≡ x = cc in
           let xe : (x.node ≡ c → ⊥) = λ u. true_not_false (ap (is_hidden m) u ∙ is_hidden_lem) (sym (ap (λ (y : model.InnerPlace). is_hidden m y.node) same) ∙ t.2) in
-          main_port_lem k x (lone_hidden k ne ∙ h) (ap lone.join (same_copy (lone_side k ne h)) ∙ lone_join (copy_place m k) x ne xe j) (lone_slot x xe ∙ q)
-
-  lone_marks_long : length (remove_lone m c).multiport ≡ port_slots
-  unfolding remove_lone remove_copy
-  lone_marks_long = length-set (set m.multiport _ false) _ false ∙ length-set m.multiport _ false ∙ l.marks_long
-
-  lone_flags_long : length (remove_lone m c).copy_node ≡ node_slots
-  unfolding remove_lone remove_copy
-  lone_flags_long = length-set m.copy_node c false ∙ l.flags_long
-
-  below : c < node_slots
-  below = node_below l.good c meta_there here_there
-
-  lone_copies : (remove_lone m c).copy_node_count ≡ total node_slots (λ n. flag (is_hidden (remove_lone m c) n))
-  unfolding remove_lone remove_copy
-  lone_copies =
-      let one = total_one node_slots c (λ n. flag (is_hidden m n)) (λ n. flag (is_hidden (remove_lone m c) n)) below (λ k h ne. ap flag (sym (lone_hidden k ne))) in
-      let p : flag (is_hidden m c) ≡ 1 = ap flag is_hidden_lem in
-      let q : flag (is_hidden (remove_lone m c) c) ≡ 0 = ap flag lone_shown in
-      let s = l.copies in
-      omega arith
-
-  lone_subs : (remove_lone m c).subport_count ≡ total node_slots (subports_of_slot (remove_lone m c) lone)
-  unfolding remove_lone remove_copy
-  lone_subs =
-      let one = total_one node_slots c (subports_of_slot m M) (subports_of_slot (remove_lone m c) lone) below (λ k h ne. sym (rw (lone_hidden k ne, lone_other k ne))) in
-      let p : subports_of_slot m M c ≡ (meta_there.incoming + meta_there.outgoing) - 1 = ap (λ (b : Bool). cond b (ports_of (M.node c) - 1) 0) is_hidden_lem ∙ ap (λ (s : Slots). ports_of s - 1) here_there in
-      let q : subports_of_slot (remove_lone m c) lone c ≡ 0 = ap (λ (b : Bool). cond b (ports_of (lone.node c) - 1) 0) lone_shown in
-      let n : num_ports m.graph c (reversed (copy_side m c)) ≡ ports_on meta_there (reversed (copy_side m c)) = ap (λ k. count_in k (reversed (copy_side m c))) (meta_of_node l.good l.holds c meta_there here_there) in
-      let t = both_sides meta_there (copy_side m c) in
-      let u = (l.shape c is_hidden_lem).single in
-      let s = l.subs in
-      omega arith
+          main_port_lem k x (hidden_other m own c k ne ∙ h) (ap lone.join (same_copy (lone_side k ne h)) ∙ join_other M c meta_there (copy_place m k) x j ne xe) (lone_slot x xe ∙ q)
 
   -- the others listed are loose still, and all else is as it was
-  pub lone_goes : Loose (remove_lone m c) lone cs
+  pub lone_goes : Loose without_lone lone cs
   lone_goes =
       record {
         good = lone_good;
         holds = lone_holds;
-        marks_long = lone_marks_long;
-        flags_long = lone_flags_long;
+        marks_long = marks_left m own c ∙ l.marks_long;
+        flags_long = flags_left m own c ∙ l.flags_long;
         shape = λ k h.
             let w = still k h in
             let t = l.shape k w.1 in
             record {
               meta = t.meta;
-              here = lone_other k w.0 ∙ t.here;
+              here = node_other M c meta_there k w.0 ∙ t.here;
               single = rw (lone_side k w.0 w.1) t.single;
               several = rw (lone_side k w.0 w.1) t.several;
             };
@@ -455,23 +374,23 @@ module _ {m : MultiPortGraph} {M : Model} (c : ℕ) (cs : List ℕ) (l : Loose m
             let w = still k h in
             let t = l.hung k w.1 (⊎_elim w.0 out) in
             let xe : (t.0.node ≡ c → ⊥) = λ u. true_not_false (ap (is_hidden m) u ∙ is_hidden_lem) t.2 in
-            (t.0, ap lone.join (same_copy (lone_side k w.0 w.1)) ∙ lone_join (copy_place m k) t.0 w.0 xe t.1, lone_hidden t.0.node xe ∙ t.2);
+            (t.0, ap lone.join (same_copy (lone_side k w.0 w.1)) ∙ join_other M c meta_there (copy_place m k) t.0 t.1 w.0 xe, hidden_other m own c t.0.node xe ∙ t.2);
         loose = λ k h.
             let t = l.loose k (inr h) in
             let ne : (k ≡ c → ⊥) = λ q. l.once.0 (subst (λ (j : ℕ). Member j cs) q h) in
-            (lone_hidden k ne ∙ t.0, ap lone.join (same_copy (lone_side k ne t.0)) ∙ drop_nowhere (at_node c) M.join (copy_place m k) t.1);
+            (hidden_other m own c k ne ∙ t.0, ap lone.join (same_copy (lone_side k ne t.0)) ∙ drop_nowhere (at_node c) M.join (copy_place m k) t.1);
         once = l.once.1;
         copy_marked = λ k h.
             let w = still k h in
-            ap (λ (y : model.InnerPlace). is_split (remove_lone m c) (slot_of lone.node y)) (same_copy (lone_side k w.0 w.1))
+            ap (λ (y : model.InnerPlace). is_split without_lone (slot_of lone.node y)) (same_copy (lone_side k w.0 w.1))
             ∙ lone_mark_at (copy_place m k) (copy_is_there l k w.1) w.0 ∙ l.copy_marked k w.1;
         main_marked = λ k x h j.
             let w = still k h in
-            let t = lone_joined (copy_place m k) x (sym (ap lone.join (same_copy (lone_side k w.0 w.1))) ∙ j) in
+            let t = join_was M c meta_there (copy_place m k) x (sym (ap lone.join (same_copy (lone_side k w.0 w.1))) ∙ j) in
             lone_mark_at x (joined_is_valid l.good (copy_place m k) x t.0) t.2 ∙ l.main_marked k x w.1 t.0;
         only_marked = lone_only;
-        copies = lone_copies;
-        subs = lone_subs;
+        copies = copies_left m l.good l.holds own c meta_there here_there is_hidden_lem l.copies;
+        subs = subs_left m l.good l.holds own c meta_there here_there is_hidden_lem (l.shape c is_hidden_lem).single l.subs;
       }
 
 -- What is left of a graph (m, M) while the hidden nodes of `all` go, of which `cs` are still there.
@@ -519,22 +438,22 @@ module _ {m : MultiPortGraph} {M : Model} {m' : MultiPortGraph} {M' : Model} {n 
     not_gone : (k : ℕ) → (Member k all → ⊥) → k ≡ c → ⊥
     not_gone k h e = h (subst (λ (j : ℕ). Member j all) (sym e) (t.among c (inl refl)))
 
-    tracks_lone : Tracks m M (remove_lone m' c) (lone c cs l) n i o b all cs
+    tracks_lone : Tracks m M (without_lone c cs l) (lone c cs l) n i o b all cs
     tracks_lone =
         record {
           ins = t.ins;
           outs = t.outs;
-          here = lone_other c cs l n (not_gone n t.apart) ∙ t.here;
+          here = node_other M' c (meta_there c cs l) n (not_gone n t.apart) ∙ t.here;
           apart = t.apart;
-          nodes = λ k e h. lone_other c cs l k (not_gone k h) ∙ t.nodes k e h;
-          hid = λ k h. lone_hidden c cs l k (not_gone k h) ∙ t.hid k h;
+          nodes = λ k e h. node_other M' c (meta_there c cs l) k (not_gone k h) ∙ t.nodes k e h;
+          hid = λ k h. hidden_other m' (own c cs l) c k (not_gone k h) ∙ t.hid k h;
           went = λ k h. ⊎_elim
-              (⊎_elim (λ e. inr (ap (lone c cs l).node e ∙ lone_gone c cs l)) (λ e. inl e))
-              (λ e. inr (⊎_elim (λ q. ap (lone c cs l).node q ∙ lone_gone c cs l) (λ q. lone_other c cs l k q ∙ e) (cases_eq k c)))
+              (⊎_elim (λ e. inr (ap (lone c cs l).node e ∙ upd_same M'.node c gone)) (λ e. inl e))
+              (λ e. inr (⊎_elim (λ q. ap (lone c cs l).node q ∙ upd_same M'.node c gone) (λ q. node_other M' c (meta_there c cs l) k q ∙ e) (cases_eq k c)))
               (t.went k h);
           among = λ k h. t.among k (inr h);
-          was = λ x y j. t.was x y (lone_joined c cs l x y j).0;
-          left = λ x y j p q. lone_join c cs l x y (not_gone x.node p.1) (not_gone y.node q.1) (t.left x y j p q);
+          was = λ x y j. t.was x y (join_was M' c (meta_there c cs l) x y j).0;
+          left = λ x y j p q. join_other M' c (meta_there c cs l) x y (t.left x y j p q) (not_gone x.node p.1) (not_gone y.node q.1);
           marks = λ x v p. lone_mark_at c cs l x (stays_valid t x p v) (not_gone x.node p.1) ∙ t.marks x v p;
         }
 
@@ -547,7 +466,7 @@ pub record Cleared (m : MultiPortGraph) (M : Model) (m' : MultiPortGraph) (n i o
 -- all hidden nodes listed go
 pub all_go : {m : MultiPortGraph} {M : Model} {n i o : ℕ} {b : NodeMeta} {all : List ℕ} (cs : List ℕ) {m' : MultiPortGraph} {M' : Model}
     → Loose m' M' cs → Tracks m M m' M' n i o b all cs → Cleared m M (remove_all m' cs) n i o b all
-unfolding remove_all
+unfolding remove_all remove_lone
 all_go [] {m'} {M'} l t = record { model' = M'; fine = loose_fine l; tracks = t }
 all_go (c ∷ cs) l t = all_go cs (lone_goes c cs l) (tracks_lone c cs l t)
 
@@ -593,7 +512,7 @@ module _ {m : MultiPortGraph} {M : Model} (f : Fine m M) (n : ℕ) (a : NodeMeta
         copy_side_is (recounted m n g') k c.meta (copy_side m k) (meta_of_node r.good re_holds k c.meta (r.others k (not_n k h) ∙ c.here)) c.single c.several
 
     re_join : (x y : model.InnerPlace) → M.join x ≡ to y → (x.node ≡ n → x.pos < new_count i o x.side) → (y.node ≡ n → y.pos < new_count i o y.side) → M'.join x ≡ to y
-    re_join x y j p q = r.join x ∙ drop_kept (beyond n i o) M.join x y j (below_stays n i o x p) (below_stays n i o y q)
+    re_join x y j p q = r.join x ∙ kept_link M.join n i o x y j p q
 
     re_joined : (x y : model.InnerPlace) → M'.join x ≡ to y → M.join x ≡ to y
     re_joined x y j = (drop_joined (beyond n i o) M.join x y (sym (r.join x) ∙ j)).0
@@ -711,8 +630,8 @@ module _ {m : MultiPortGraph} {M : Model} (f : Fine m M) (n : ℕ) (a : NodeMeta
       go true h =
           let c = f.copy x.node h in
           ap (of_dropped n i o) (outer_of_subport f x c.main h c.joined)
-          ∙ below_stays n i o c.main (main_stays f n a shown here i o x.node c.main h s.1 c.joined).0
-      go false h = ap (of_dropped n i o) (outer_of_block f x h) ∙ below_stays n i o x s.0
+          ∙ kept_stays n i o c.main (main_stays f n a shown here i o x.node c.main h s.1 c.joined).0
+      go false h = ap (of_dropped n i o) (outer_of_block f x h) ∙ kept_stays n i o x s.0
 
   not_dropped_stays : (x : model.InnerPlace) → of_dropped n i o (outer m M x) ≡ false → Stays n i o (copies_dropped m a i o) x
   not_dropped_stays x e = go (is_hidden m x.node) refl
@@ -855,27 +774,23 @@ module _ {m : MultiPortGraph} {M : Model} (f : Fine m M) (n i o room : ℕ) wher
 
       done : (k : NodeMeta) → is_hidden m n ≡ false → M.node n ≡ live k → (g' : PortGraph) → SomeRecount g' M n i o
           → SetDone m M (remove_all (recounted m n g') (copies_dropped m k i o)) n i o
-      done k shown here g' s = go s.old s.is.here s.is
-        where
-          go : (a : NodeMeta) → M.node n ≡ live a → Recount g' M s.model' n a s.new i o → SetDone m M (remove_all (recounted m n g') (copies_dropped m k i o)) n i o
-          go a there r =
-              let same : a ≡ k = cc in
-              let r' : Recount g' M s.model' n k s.new i o = subst (λ (c : NodeMeta). Recount g' M s.model' n c s.new i o) same r in
-              let z = all_go (copies_dropped m k i o) (resize_loosens f n k shown here i o r') (resize_tracks f n k shown here i o r') in
-              record {
-                model' = z.model';
-                old = k;
-                new = s.new;
-                fine = z.fine;
-                was = (shown, here);
-                is = (z.tracks.hid n z.tracks.apart ∙ shown, z.tracks.here);
-                ins = z.tracks.ins;
-                outs = z.tracks.outs;
-                others = others_left f n k shown here i o z;
-                others_back = others_before f n k shown here i o z;
-                wires = wires_left f n k shown here i o z;
-                splits = splits_left f n k shown here i o z;
-              }
+      done k shown here g' s =
+          let r = recount_of s k here in
+          let z = all_go (copies_dropped m k i o) (resize_loosens f n k shown here i o r) (resize_tracks f n k shown here i o r) in
+          record {
+            model' = z.model';
+            old = k;
+            new = s.new;
+            fine = z.fine;
+            was = (shown, here);
+            is = (z.tracks.hid n z.tracks.apart ∙ shown, z.tracks.here);
+            ins = z.tracks.ins;
+            outs = z.tracks.outs;
+            others = others_left f n k shown here i o z;
+            others_back = others_before f n k shown here i o z;
+            wires = wires_left f n k shown here i o z;
+            splits = splits_left f n k shown here i o z;
+          }
 
       lower : (k : NodeMeta) → is_hidden m n ≡ false → M.node n ≡ live k → (t : Result ℕ SetError) → (set_num_ports m.graph n i o room).answer ≡ t
           → SetSays m M n i o (record { graph = resized m n k i o (set_num_ports m.graph n i o room).graph t; answer = set_as t })

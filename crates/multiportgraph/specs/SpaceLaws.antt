@@ -47,7 +47,7 @@ use Rattle.multiportgraph.specs.CopyLaws.{copy_goes, unsplit_split}
 use Rattle.multiportgraph.specs.PrepareLaws.{prepare_law}
 use Rattle.multiportgraph.specs.Tidy.{subports_left, left_incoming, left_outgoing, drop_subports, link_directly, tidied}
 use Rattle.multiportgraph.specs.TidyLaws.{DropWithin, no_change, in_block, left_within}
-use Rattle.multiportgraph.specs.RecountLaws.{Recount, SomeRecount, set_recounts, slot_on_side, place_among}
+use Rattle.multiportgraph.specs.RecountLaws.{recount_of, SomeRecount, set_recounts, slot_on_side, place_among}
 use Rattle.multiportgraph.specs.SetLaws.{resize_loosens}
 use Rattle.multiportgraph.specs.Space.{Room, room_of, Work, tidy_works, tidy_seen_works, take_node, take_block, give_node, give_block, block_taken, after_work, after_works, on_the_way, nodes_past, ports_past, nodes_short, ports_short, overflows, add_works, gone_works, split_works, move_works, recount_works, grow_works, reuse_works, prepare_works, second_works, link_seen_works, link_works, link_clean_seen_works, link_clean_works, copies_gone, set_meta_works, set_works, cut_works, remove_works, remove_meta_works, told_works, HasRoom, Spaced}
 use Rattle.multiportgraph.specs.declared.multiportgraph.MultiPortGraph.{MultiPortGraph}
@@ -652,21 +652,15 @@ set_counts_space {m} {M} f n k block i o room few told =
 
     dropped : (g' : PortGraph) → SomeRecount g' M n i o → HasRoom g' (after_works (room_of M) (recount_works k i o))
         → HasRoom (remove_all (recounted m n g') (copies_dropped m k i o)).graph (after_works (room_of M) (recount_works k i o ++ copies_gone m (copies_dropped m k i o)))
-    dropped g' s h = by s.old s.is.here s.is
-      where
-        by : (a : NodeMeta) → M.node n ≡ live a → Recount g' M s.model' n a s.new i o
-            → HasRoom (remove_all (recounted m n g') (copies_dropped m k i o)).graph (after_works (room_of M) (recount_works k i o ++ copies_gone m (copies_dropped m k i o)))
-        by a there c =
-            let here = block.1 in
-            let same : a ≡ k = cc in
-            let r : Recount g' M s.model' n k s.new i o = subst (λ (v : NodeMeta). Recount g' M s.model' n v s.new i o) same c in
-            let l = resize_loosens f n k block.0 block.1 i o r in
-            subst (HasRoom (remove_all (recounted m n g') (copies_dropped m k i o)).graph) (sym (after_append (recount_works k i o) (copies_gone m (copies_dropped m k i o)) (room_of M)))
-            (all_gone_room m (copies_dropped m k i o) (recounted m n g') (after_works (room_of M) (recount_works k i o)) h l.once
-            (λ b t.
-            let x : is_hidden m b ≡ true = (l.loose b t).0 in
-            let other : b ≡ n → ⊥ = λ e. let y : is_hidden m n ≡ true = subst (λ (z : ℕ). is_hidden m z ≡ true) e x in let w = block.0 in zero_is_not_one (cc) in
-            meta_by_model r.good r.holds b ∙ (ap meta_of_slots (r.others b other) ∙ sym (meta_by_model f.good f.holds b))))
+    dropped g' s h =
+        let r = recount_of s k block.1 in
+        let l = resize_loosens f n k block.0 block.1 i o r in
+        subst (HasRoom (remove_all (recounted m n g') (copies_dropped m k i o)).graph) (sym (after_append (recount_works k i o) (copies_gone m (copies_dropped m k i o)) (room_of M)))
+        (all_gone_room m (copies_dropped m k i o) (recounted m n g') (after_works (room_of M) (recount_works k i o)) h l.once
+        (λ b t.
+        let x : is_hidden m b ≡ true = (l.loose b t).0 in
+        let other : b ≡ n → ⊥ = λ e. let y : is_hidden m n ≡ true = subst (λ (z : ℕ). is_hidden m z ≡ true) e x in let w = block.0 in zero_is_not_one (cc) in
+        meta_by_model r.good r.holds b ∙ (ap meta_of_slots (r.others b other) ∙ sym (meta_by_model f.good f.holds b))))
 
     go : (t : Result ℕ SetError) → (set_num_ports m.graph n i o room).answer ≡ t → SetSpace (set_num_ports m.graph n i o room).graph M (recount_works k i o) t
         → Spaced m M (recount_works k i o ++ copies_gone m (copies_dropped m k i o)) (set_as t ≡ Err NoRoom) (resized m n k i o (set_num_ports m.graph n i o room).graph t)

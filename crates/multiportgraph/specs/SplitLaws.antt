@@ -19,7 +19,7 @@ use Rattle.portgraph.specs.Sums.{place_cases, total_one, upd_same, upd_other, sa
 use Rattle.portgraph.specs.Meaning.{add_model, link_model, unlink_model, same_place, next_slot, next_block, growth}
 use Rattle.portgraph.specs.Calls.{add_node, link_ports, unlink_port, place_node, with_links}
 use Rattle.port_tables.specs.ResizeLinks.{round_up}
-use Rattle.portgraph.specs.GoodSlots.{gone_not_live, zero_is_not_one, slot_in_range, slots_apart, joined_is_valid, same_place_lem, node_below}
+use Rattle.portgraph.specs.GoodSlots.{gone_not_live, zero_is_not_one, slots_apart, joined_is_valid, same_place_lem, node_below}
 use Rattle.portgraph.specs.GoodLaws.{good_link, good_unlink, good_add, next_slot_gone}
 use Rattle.portgraph.specs.LinkHolds.{link_done, link_holds, unlink_linked, unlink_holds}
 use Rattle.portgraph.specs.SlotHolds.{add_law, add_where, place_holds, slot_room, block_room}
@@ -40,10 +40,10 @@ use Rattle.multiportgraph.specs.Needs.{need_of}
 use Rattle.multiportgraph.specs.NeedStays.{Alike, alike_same, alike_linked, need_alike}
 use Rattle.multi_tables.specs.TableReads.{far_in, hang_on, copy_at, subports_at}
 use Rattle.multiportgraph.specs.WellFormed.{inner#, copy_place, Copy, Marked, copy_port, main_port_lem, Fine, Seen, lift, lift_far, outer, IsEnd, WireIn, SameBlocks, SameWires, subports_of_slot, HasEnd}
-use Rattle.multiportgraph.specs.Ends.{ends_join_ends, unsplit_no_copy, outer_of_subport, outer_of_block, not_reversed, side_cases}
-use Rattle.multiportgraph.specs.HiddenStays.{same_copy, same_wire, wire_again}
+use Rattle.multiportgraph.specs.Ends.{mark_below, wire_at, ends_join_ends, unsplit_no_copy, outer_of_subport, outer_of_block, not_reversed, side_cases, lift_place}
+use Rattle.multiportgraph.specs.HiddenStays.{same_copy, same_wire, wire_again, same_slot}
 use Rattle.multiportgraph.specs.declared.multiportgraph.MultiPortGraph.{MultiPortGraph}
-use Rattle.port_tables.specs.Places.{Place, Wire, flag}
+use Rattle.port_tables.specs.Places.{Place, Wire, wire_of_sides, flag}
 use Rattle.multiportgraph.specs.HiddenNodes.{copy_incoming, copy_outgoing, Prepared, ready, full, split, split_by, split_port, split_graph, split_under}
 use Rattle.multiportgraph.specs.Ends.{twice_reversed}
 
@@ -76,8 +76,7 @@ pub record PreparedEnd (m : MultiPortGraph) (M : Model) (x : model.InnerPlace) (
 -- Wires and their ends.
 
 lift_same : (x y : model.InnerPlace) (o r : ℕ) → lift x o ≡ lift y r → (x ≡ y) × (o ≡ r)
-lift_same x y o r e =
-    (same_place_lem x y (ap (λ (w : Place). w.node) e) (ap (λ (w : Place). w.side) e) (ap (λ (w : Place). w.pos) e), ap (λ (w : Place). w.offset) e)
+lift_same x y o r e = (lift_place e, ap (λ (w : Place). w.offset) e)
 
 -- a linked end at a place
 pub record LinkedEnd (m : MultiPortGraph) (M : Model) (p : Place) : Type 0 where
@@ -101,17 +100,15 @@ module _ {m : MultiPortGraph} {M : Model} (f : Fine m M) where
       }
 
   pub wire_of_end : (x y : model.InnerPlace) → IsEnd m M x → M.join x ≡ to y → (w : Wire) × WireIn m M w × HasEnd w (outer m M x)
-  wire_of_end x y e j = go x.side y.side refl refl
+  wire_of_end x y e j = (wire_of_sides x.side (outer m M x) (outer m M y), wire_at f x y e j, has x.side)
     where
-      go : (a b : Direction) → x.side ≡ a → y.side ≡ b → (w : Wire) × WireIn m M w × HasEnd w (outer m M x)
-      go Outgoing b p q =
-          (record { out = outer m M x; into = outer m M y }, record { x = x; y = y; joined = j; outgoing = p; end = e; is = refl }, inl refl)
-      go Incoming Outgoing p q = (
-        record { out = outer m M y; into = outer m M x },
-        record { x = y; y = x; joined = f.good.join_back x y j; outgoing = q; end = ends_join_ends f x y e j; is = refl },
-        inr refl,
-      )
-      go Incoming Incoming p q = absurd (f.good.join_sides x y j (p ∙ sym q))
+      has : (d : Direction) → HasEnd (wire_of_sides d (outer m M x) (outer m M y)) (outer m M x)
+      has Outgoing = inl refl
+      has Incoming = inr refl
+
+-- a linked place is not the one it is linked with
+linked_apart : {M : Model} → Good M → (x y : model.InnerPlace) → M.join x ≡ to y → y ≡ x → ⊥
+linked_apart g x y j q = g.join_sides x y j (ap (λ (w : model.InnerPlace). w.side) (sym q))
 
 -- The copy port's side, by the counts and one mark.
 
@@ -206,7 +203,7 @@ module _ {m : MultiPortGraph} {M : Model} {x y : model.InnerPlace} {m' : MultiPo
   hidden_not_new n h q = zero_is_not_one (let e = ap (is_hidden m) q in let e' = was_plain in cc)
 
   slot_same : (z : model.InnerPlace) → (z.node ≡ c → ⊥) → slot_of M'.node z ≡ slot_of M.node z
-  slot_same z n = ap (λ w. first_of w + (side_start w z.side + z.pos)) (s.node z.node n)
+  slot_same z n = same_slot M M' z (s.node z.node n)
 
   valid_kept : (z : model.InnerPlace) → Valid M.node z → Valid M'.node z
   valid_kept z v = subst (λ w. z.pos < count_of w z.side) (sym (s.node z.node (not_new z v))) v
@@ -280,8 +277,7 @@ module _ {m : MultiPortGraph} {M : Model} {x y : model.InnerPlace} {m' : MultiPo
   outer_second = rw s.hidden_here (ap (λ d. lift_far (M'.join (inner# c d 0)) 1 (sub# 1)) side_new ∙ ap (λ w. lift_far w 1 (sub# 1)) s.at_copy)
 
   outer_port : outer m M x ≡ lift x 0
-  unfolding outer
-  outer_port = rw sx.1
+  outer_port = outer_of_block f x sx.1
 
   end_kept : (z : model.InnerPlace) → IsEnd m M z → (z ≡ x → ⊥) → IsEnd m' M' z
   end_kept z e n =
@@ -329,9 +325,6 @@ module _ {m : MultiPortGraph} {M : Model} {x y : model.InnerPlace} {m' : MultiPo
 
   far_valid : Valid M.node y
   far_valid = far_end.valid
-
-  far_other : y ≡ x → ⊥
-  far_other q = f.good.join_sides x y linked (ap (λ (w : model.InnerPlace). w.side) (sym q))
 
   -- The invariant.
 
@@ -479,7 +472,7 @@ module _ {m : MultiPortGraph} {M : Model} {x y : model.InnerPlace} {m' : MultiPo
             y = sub# 0;
             joined = s.at_far;
             outgoing = ap (λ (a : model.InnerPlace). a.side) (sym q) ∙ h.outgoing;
-            end = end_kept y far_end far_other;
+            end = end_kept y far_end (linked_apart f.good x y linked);
             is = h.is ∙ same_wire (ap (outer m M) q ∙ sym (outer_kept y (not_new y far_valid))) (ap (outer m M) r ∙ (outer_port ∙ sym outer_first));
           }
 
@@ -716,9 +709,6 @@ module _ {m : MultiPortGraph} {M : Model} (f : Fine m M) (x y : model.InnerPlace
       go nowhere e = e
       go (to u) e = absurd (old_place z (f.good.join_valid z u e) q)
 
-  y_not_x : y ≡ x → ⊥
-  y_not_x q = f.good.join_sides x y linked (ap (λ (w : model.InnerPlace). w.side) (sym q))
-
   x_cut : M₂.join x ≡ nowhere
   x_cut = drop_here (same_place x) M.join x (same_place_refl x)
 
@@ -735,7 +725,7 @@ module _ {m : MultiPortGraph} {M : Model} (f : Fine m M) (x y : model.InnerPlace
   first_free = link_other x cp M₂.join (sp 0) (λ q. apart_from x x.side 0 x_old (sym q)) (sub_not_copy 0) ∙ new_free (sp 0) refl
 
   y_free : M₃.join y ≡ nowhere
-  y_free = link_other x cp M₂.join y y_not_x (apart_from y (reversed x.side) 0 y_old) ∙ y_cut
+  y_free = link_other x cp M₂.join y (linked_apart f.good x y linked) (apart_from y (reversed x.side) 0 y_old) ∙ y_cut
 
   good₃ : Good M₃
   good₃ = good_link (good_unlink good₁ x) x cp valid_x valid_cp x_cut (new_free cp refl) (λ q. not_reversed x.side (sym q))
@@ -828,12 +818,6 @@ module _ {m : MultiPortGraph} {M : Model} (f : Fine m M) (x y : model.InnerPlace
       let a = node_below good₁ c# new# is_new in
       omega arith
 
-  x_below : slot_of M.node x < length m.multiport
-  x_below = rw f.marks_long (slot_in_range f.good x sx.0)
-
-  cp_below : slot_of M₁.node cp < length m.multiport
-  cp_below = rw f.marks_long (slot_in_range good₁ cp valid_cp)
-
   cp_slot_apart : slot_of M₁.node cp ≡ slot_of M.node x → ⊥
   cp_slot_apart q = apart_from x (reversed x.side) 0 x_old (slots_apart good₁ x cp valid_x valid_cp (slot_of_x ∙ sym q))
 
@@ -858,7 +842,7 @@ module _ {m : MultiPortGraph} {M : Model} (f : Fine m M) (x y : model.InnerPlace
         ins = refl;
         outs = refl;
         node = old_node;
-        at_port = link_other (sp 0) y M₃.join x (apart_from x x.side 0 x_old) (λ q. y_not_x (sym q)) ∙ link_near x cp M₂.join;
+        at_port = link_other (sp 0) y M₃.join x (apart_from x x.side 0 x_old) (λ q. linked_apart f.good x y linked (sym q)) ∙ link_near x cp M₂.join;
         at_copy =
             link_other (sp 0) y M₃.join cp (λ q. sub_not_copy 0 (sym q)) (λ q. apart_from y (reversed x.side) 0 y_old (sym q))
             ∙ link_far x cp M₂.join (λ q. apart_from x (reversed x.side) 0 x_old (sym q));
@@ -871,10 +855,10 @@ module _ {m : MultiPortGraph} {M : Model} (f : Fine m M) (x y : model.InnerPlace
         hidden_here = get_or-set_same m.copy_node c# true false (rw f.flags_long c_below);
         hidden_else = λ n k. get_or-set_other m.copy_node c# n true false k;
         port_marked = ap (λ (l : List Bool). get_or l (slot_of M.node x) false) marks_after
-            ∙ get_or-set_same (set m.multiport (slot_of M₁.node cp) true) (slot_of M.node x) true false (lt-length-set m.multiport (slot_of M₁.node cp) true x_below);
+            ∙ get_or-set_same (set m.multiport (slot_of M₁.node cp) true) (slot_of M.node x) true false (lt-length-set m.multiport (slot_of M₁.node cp) true (mark_below m f.marks_long f.good x sx.0));
         copy_marked = ap (λ (l : List Bool). get_or l (slot_of M₁.node cp) false) marks_after
             ∙ (get_or-set_other (set m.multiport (slot_of M₁.node cp) true) (slot_of M.node x) (slot_of M₁.node cp) true false cp_slot_apart
-            ∙ get_or-set_same m.multiport (slot_of M₁.node cp) true false cp_below);
+            ∙ get_or-set_same m.multiport (slot_of M₁.node cp) true false (mark_below m f.marks_long good₁ cp valid_cp));
         marked_else = λ s a b. ap (λ (l : List Bool). get_or l s false) marks_after
             ∙ (get_or-set_other (set m.multiport (slot_of M₁.node cp) true) (slot_of M.node x) s true false a
             ∙ get_or-set_other m.multiport (slot_of M₁.node cp) s true false b);

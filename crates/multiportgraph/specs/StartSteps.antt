@@ -1,29 +1,29 @@
 -- What the steps of the starts of walks amount to, over plain values.
 use Rattle.multi_tables.specs.declared.scans.Held.{Held}
-use Rattle.std.specs.Prelude.{◌≡◌, Bool, false, ℕ, length, List, Result, Ok, Err}
+use Rattle.std.specs.Prelude.{◌≡◌, Bool, false, ℕ, length, List, Option, Some, None, Result, Ok, Err}
 use Rattle.std.proofs.Math.Path.{refl, ap}
 use Rattle.std.proofs.Common.{sym, ◌∙◌, true≢false}
 use Rattle.std.proofs.Math.Bool.{true, cond}
 use Rattle.std.proofs.lemmas.Bool.{false≢true}
-use Rattle.std.specs.Result.{is_ok, IsErrAnd}
+use Rattle.std.specs.Result.{is_ok, result_ok, IsErrAnd}
 use Rattle.port_tables.specs.TableSteps.{passed_on, with_numbers}
 use Rattle.port_tables.specs.Limits.{node_slots}
-use Rattle.portgraph.specs.Lookups.{contains_node, port_at}
-use Rattle.port_tables.specs.declared.port_entry.PortEntry.{PortEntry}
-use Rattle.port_tables.specs.declared.port_entry.PortEntry.TheVariants as port_variants
-use Rattle.multiportgraph.specs.Reading.{is_hidden, seen_entry, seen}
+use Rattle.portgraph.specs.Lookups.{contains_node}
+use Rattle.multiportgraph.specs.Reading.{is_hidden, seen}
 use Rattle.multi_tables.specs.Forms.{Port, dead, hidden, visible, flag_at}
 use Rattle.multi_tables.specs.FormSteps.{flag_is}
 use Rattle.multi_tables.specs.NamedEnds.{block_or, block_port}
 use Rattle.multi_tables.specs.NamedEndSteps as tables
-use Rattle.multi_tables.specs.NamedEndSteps.{block_seen, block_refused, block_found}
-use Rattle.multi_tables.specs.TableReads.{seen_owner, seen_in}
+use Rattle.multi_tables.specs.NamedEndSteps.{ok_told, err_told, block_seen, block_found, read_ok}
+use Rattle.multi_tables.specs.TableReads.{seen_in}
+use Rattle.multiportgraph.specs.TableReadLaws.{seen_read}
 use Rattle.port_tables.specs.Entries.{port#}
 use Rattle.port_tables.specs.declared.direction.Direction.{Direction}
 use Rattle.port_tables.specs.declared.index.NodeIndex.{NodeIndex}
 use Rattle.multi_tables.specs.declared.answers.Refusal.{Refusal}
-use Rattle.multiportgraph.specs.Lookups.{node_seen, node_of, direction_seen, direction_of, offset_seen, offset_of, fan_out_seen, port_fan_out}
-use Rattle.multiportgraph.specs.Walks.{is_seen, Start, started, refused, start_at_node, start_between, start_seen, start_at_port}
+use Rattle.multiportgraph.specs.Lookups.{contains_port_of, node_seen, node_of, direction_seen, direction_of, offset_seen, offset_of, fan_out_seen, port_fan_out}
+use Rattle.port_tables.specs.declared.index.PortIndex.{PortIndex}
+use Rattle.multiportgraph.specs.Walks.{port_links_from, is_seen, Start, started, refused, start_at_node, start_between, start_seen, start_at_port}
 use Rattle.multiportgraph.specs.declared.multiportgraph.MultiPortGraph.{MultiPortGraph}
 use Rattle.multi_tables.specs.declared.answers.Refusal.TheVariants.{UnknownNode, HiddenNode, UnknownPort, HiddenPort}
 
@@ -40,23 +40,19 @@ seen_is_ok p (visible n d) = refl
 pub port_is_ok : (owners : List ℕ) (flags : List Bool) (p : ℕ) → is_ok (block_port owners flags p) ≡ is_seen (seen_in owners flags p)
 port_is_ok owners flags p = ap is_ok (sym (block_seen owners flags p (seen_in owners flags p) refl)) ∙ seen_is_ok p (seen_in owners flags p)
 
+pub seen_told : (owners : List ℕ) (flags : List Bool) (p : ℕ) {b : Result (NodeIndex × Direction) Refusal} {t : Bool} → b ≡ block_port owners flags p → t ≡ is_ok b → t ≡ is_seen (seen_in owners flags p)
+seen_told owners flags p e k = k ∙ (ap is_ok e ∙ port_is_ok owners flags p)
+
 module _ (m : MultiPortGraph) where
-  owner_by : (e : PortEntry) → length m.copy_node ≡ node_slots → seen_owner m.copy_node e ≡ seen_entry m e
-  unfolding is_hidden
-  owner_by port_variants.Free long = refl
-  owner_by (port_variants.Port k) long =
-      ap (λ b. cond b hidden (visible k.node.0 k.direction)) (flag_is m.copy_node node_slots k.node.0 long)
-
-  -- a port number reads as the tables tell it
-  pub seen_read : (p : ℕ) → length m.copy_node ≡ node_slots → seen_in m.graph.port_meta m.copy_node p ≡ seen m p
-  unfolding seen_in seen
-  seen_read p long = owner_by (port_at m.graph p) long
-
   -- a port that is refused is refused alike by all that refuse 7 and 8; one that is not is of a block
   module _ (p : ℕ) (long : length m.copy_node ≡ node_slots) where
-    pub block_told : {A : Type 0} (f : Port → Result A Refusal) (r : Refusal) → f dead ≡ Err (UnknownPort (port# p)) → f hidden ≡ Err (HiddenPort (port# p))
+    pub seen_refused : {A : Type 0} (v : Refusal → A) (f : Port → A) (r : Refusal) → f dead ≡ v (UnknownPort (port# p)) → f hidden ≡ v (HiddenPort (port# p))
+        → block_port m.graph.port_meta m.copy_node p ≡ Err r → v r ≡ f (seen m p)
+    seen_refused v f r g h e = tables.refused_as p v f (seen m p) r g h (block_seen m.graph.port_meta m.copy_node p _ (seen_read m long p) ∙ e)
+
+    block_told : {A : Type 0} (f : Port → Result A Refusal) (r : Refusal) → f dead ≡ Err (UnknownPort (port# p)) → f hidden ≡ Err (HiddenPort (port# p))
         → block_port m.graph.port_meta m.copy_node p ≡ Err r → Err r ≡ f (seen m p)
-    block_told f r g h e = block_refused m.graph.port_meta m.copy_node p f r g h e ∙ ap f (seen_read p long)
+    block_told = seen_refused Err
 
     pub node_refused : (r : Refusal) → block_port m.graph.port_meta m.copy_node p ≡ Err r → Err r ≡ node_of m p
     unfolding node_of
@@ -75,13 +71,27 @@ module _ (m : MultiPortGraph) where
     fan_out_refused r e = block_told (fan_out_seen m p) r refl refl e
 
     pub block_is : (n : NodeIndex) (d : Direction) → block_port m.graph.port_meta m.copy_node p ≡ Ok (n, d) → seen m p ≡ visible n.0 d
-    block_is n d e = sym (seen_read p long) ∙ block_found m.graph.port_meta m.copy_node p n d e
+    block_is n d e = sym (seen_read m long p) ∙ block_found m.graph.port_meta m.copy_node p n d e
 
     pub block_is_seen : is_ok (block_port m.graph.port_meta m.copy_node p) ≡ is_seen (seen m p)
-    block_is_seen = port_is_ok m.graph.port_meta m.copy_node p ∙ ap is_seen (seen_read p long)
+    block_is_seen = port_is_ok m.graph.port_meta m.copy_node p ∙ ap is_seen (seen_read m long p)
+
+    pub contains_told : {b : Result (NodeIndex × Direction) Refusal} {t : Bool} → b ≡ block_port m.graph.port_meta m.copy_node p → t ≡ is_ok b → t ≡ contains_port_of m p
+    unfolding contains_port_of
+    contains_told e k = k ∙ (ap is_ok e ∙ block_is_seen)
 
     pub block_unseen : {A : Type 0} (f : Port → A) (z : A) (r : Refusal) → f dead ≡ z → f hidden ≡ z → block_port m.graph.port_meta m.copy_node p ≡ Err r → f (seen m p) ≡ z
-    block_unseen f z r g h e = ap f (sym (seen_read p long)) ∙ tables.block_unseen m.graph.port_meta m.copy_node p f z r g h e
+    block_unseen f z r g h e = ap f (sym (seen_read m long p)) ∙ tables.block_unseen m.graph.port_meta m.copy_node p f z r g h e
+
+    -- where a step is left since the port is refused, it gives what a dead and a hidden port give alike
+    pub block_unread : {A : Type 0} (f : Port → A) {z : A} {b : Result (NodeIndex × Direction) Refusal} {o : Option (NodeIndex × Direction)} → f dead ≡ z → f hidden ≡ z
+        → b ≡ block_port m.graph.port_meta m.copy_node p → o ≡ result_ok b → o ≡ None → f (seen m p) ≡ z
+    block_unread f {z} g h e k n = let r = err_told _ k n in block_unseen f z r.0 g h (sym e ∙ r.1)
+
+    -- and where it goes on, the port is of a block
+    pub block_read : {n : NodeIndex} {d : Direction} {b : Result (NodeIndex × Direction) Refusal} {o : Option (NodeIndex × Direction)} → b ≡ block_port m.graph.port_meta m.copy_node p → o ≡ result_ok b → o ≡ Some (n, d)
+        → seen m p ≡ visible n.0 d
+    block_read {n} {d} e k s = block_is n d (read_ok e k s)
 
   pub start_port : (p : ℕ) (s : Port) → seen m p ≡ s → start_seen p s ≡ start_at_port m p
   unfolding start_at_port
@@ -126,3 +136,12 @@ module _ (m : MultiPortGraph) where
 -- what a cursor holds at the start
 pub held_first : {h : Held} → (h.port ≡ 0) × (h.offset ≡ 0) → h ≡ record { port = 0; offset = 0 }
 held_first e = λ i. record { port = e.0 i; offset = e.1 i }
+
+-- The start of a walk over the links of a port.
+
+module _ (m : MultiPortGraph) (port : PortIndex) (long : length m.copy_node ≡ node_slots) where
+  pub port_links_refused : {r : Refusal} → block_port m.graph.port_meta m.copy_node port.0 ≡ Err r → Err r ≡ port_links_from port (start_at_port m port.0)
+  port_links_refused {r} e = block_told m port.0 long (λ s. port_links_from port (start_seen port.0 s)) r refl refl e ∙ ap (port_links_from port) (start_port m port.0 _ refl)
+
+  pub port_links_made : {b : Result (NodeIndex × Direction) Refusal} {x : NodeIndex × Direction} → b ≡ block_port m.graph.port_meta m.copy_node port.0 → b ≡ Ok x → Ok (record { port = port; front = 0; back = 0 }) ≡ port_links_from port (start_at_port m port.0)
+  port_links_made {x = x} e h = ap (port_links_from port) (start_port m port.0 _ (block_is m port.0 long x.0 x.1 (sym e ∙ h)))

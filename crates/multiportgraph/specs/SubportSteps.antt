@@ -3,11 +3,11 @@ use Rattle.std.proofs.Math.Path.{◌≡◌, refl, sym, ap}
 use Rattle.std.proofs.Common.{◌∙◌}
 use Rattle.std.specs.Prelude.{Bool, false, leb, Option, Some, None, Ok}
 use Rattle.std.proofs.Math.Bool.{true, cond}
-use mathlib.Core.List.{List, [], ◌∷◌, map}
+use mathlib.Core.List.{List, [], map}
 use Prim.Native.Nat.{ℕ, suc, ◌+◌, ◌-◌, ◌≤◌, ◌<◌, min}
 use native.Mathlib.Omega.{arith}
 use Rattle.port_tables.specs.Limits.{port_slots}
-use Rattle.port_tables.specs.Lists.{range, on_first}
+use Rattle.port_tables.specs.Lists.{range}
 use Rattle.std.specs.List.{filter}
 use Rattle.portgraph.specs.Lookups.{meta_at}
 use Rattle.port_tables.specs.Entries.{ports_from, ports_to}
@@ -21,7 +21,7 @@ use Rattle.multiportgraph.specs.WellFormed.{MultiWf}
 use Rattle.multi_tables.specs.TableReads.{seen_in}
 use Rattle.multiportgraph.specs.TableReadLaws.{seen_read}
 use Rattle.multiportgraph.specs.Walks.{both_seen, subports_of, subport_beyond, step_subports}
-use Rattle.multiportgraph.specs.ScanLaws.{subports_seen, subports_at, subports_from_to, subport_past, subport_at_port, subports_in_row, subports_of_split, subports_of_plain, offsets_past, block_not_hidden, row_fits, row_past, row_end}
+use Rattle.multiportgraph.specs.ScanLaws.{subports_seen, subports_at, subports_from_to, subport_past, found_told, subport_at_port, subports_in_row, subports_of_split, subports_of_plain, offsets_past, block_not_hidden, row_fits, row_past, row_end}
 use Rattle.multiportgraph.specs.LookupSteps.{block_at, meta_is}
 use Rattle.multi_tables.specs.Scans.{span_count, first_found}
 use Rattle.multiportgraph.specs.ScanReads.{count_split, count_plain}
@@ -107,12 +107,12 @@ module _ (m : MultiPortGraph) (w : MultiWf m) where
   subports_unseen_read : (p o : ℕ) (s : Port) → seen m p ≡ s → subports_seen m p s ≡ [] → port_subports_by m.multiport m.graph.port_link m.graph.port_meta p o s ≡ []
       → (table_port p o ≡ []) × (subports_at m p ≡ [])
   unfolding port_subports_in subports_at
-  subports_unseen_read p o s e f g = (rw (seen_read w.fine p, e) g, rw e f)
+  subports_unseen_read p o s e f g = (rw (seen_read m w.fine.flags_long p, e) g, rw e f)
 
   module _ (p n : ℕ) (d : Direction) (s : seen m p ≡ visible n d) where
     table_seen : (o : ℕ) → table_port p o ≡ map (subport# p) (range o (count p d - o))
     unfolding port_subports_in
-    table_seen o = rw (seen_read w.fine p, s)
+    table_seen o = rw (seen_read m w.fine.flags_long p, s)
 
     by_offset : subports_at m p ≡ map (subport# p) (range 0 (count p d))
     unfolding range
@@ -156,18 +156,6 @@ module _ (m : MultiPortGraph) (w : MultiWf m) where
       (subports_rest m.multiport m.graph.port_link m.graph.port_meta m.copy_node) (λ p i. refl) (λ p i c. refl) (ports_from k sides) (ports_to k sides) held o (row_fits w n k open_node meta sides).0)
       ∙ ap (filter (subport_beyond held o)) (sym (subports_in_row w n k open_node meta sides))
 
--- what was found, as a step has it
-module _ {B : Type 0} (end : B) (item : SubportIndex → B) where
-  first_item : (l : List SubportIndex) (r : Option SubportIndex) (s : SubportIndex) → r ≡ first_found l → r ≡ Some s → item s ≡ on_first end item l
-  unfolding first_found on_first
-  first_item [] r s e h = let z : ◌≡◌ {A = ℕ} 0 1 = cc in absurd (omega arith)
-  first_item (v ∷ l) r s e h = let q : s ≡ v = cc in ap item q
-
-  first_end : (l : List SubportIndex) (r : Option SubportIndex) → r ≡ first_found l → r ≡ None → end ≡ on_first end item l
-  unfolding first_found on_first
-  first_end [] r e h = refl
-  first_end (v ∷ l) r e h = let z : ◌≡◌ {A = ℕ} 0 1 = cc in absurd (omega arith)
-
 module _ (m : MultiPortGraph) (c : NodeSubports) where
   abbrev subports_item : SubportIndex → Option (SubportIndex × NodeSubports)
   subports_item s = Some (s, record { node = c.node; sides = c.sides; held = held_at s })
@@ -192,9 +180,9 @@ module _ (m : MultiPortGraph) (c : NodeSubports) where
     subports_item_lem s h f g =
         rw (both_found m c.node.0 k c.held.port true w e there)
         (ap (λ (x : Held). Some (s, record { node = c.node; sides = c.sides; held = x })) g
-        ∙ first_item None subports_item _ r s listed f)
+        ∙ found_told None subports_item _ (sym f ∙ listed))
 
     pub subports_none : r ≡ None → None ≡ step_subports m c
     unfolding step_subports
     subports_none h =
-        rw (both_found m c.node.0 k c.held.port true w e there) (first_end None subports_item _ r listed h)
+        rw (both_found m c.node.0 k c.held.port true w e there) (found_told None subports_item _ (sym h ∙ listed))

@@ -1,10 +1,11 @@
 -- What the tables alone tell of a graph of the calls is what the graph tells: ports, subports, ends and wires.
+use Rattle.std.proofs.Math.ListN.{length}
 use Rattle.multi_tables.specs.declared.answers.PortPlace.{PortPlace}
 use Rattle.std.specs.Prelude.{◌≡◌, Bool, List, eqb, Some, None, Ok}
 use Rattle.std.proofs.Math.Path.{refl, sym, ap}
 use Rattle.std.proofs.Common.{◌∙◌, subst}
 use Rattle.std.proofs.Math.Bool.{true, false, cond}
-use Prim.Native.Nat.{ℕ, zero, suc, ◌+◌, ◌-◌, ◌*◌, ◌/◌, ◌%◌, ◌≤◌, ◌<◌, min}
+use Prim.Native.Nat.{ℕ, suc, ◌+◌, ◌-◌, ◌*◌, ◌/◌, ◌%◌, ◌≤◌, ◌<◌, min}
 use native.Mathlib.Omega.{arith}
 use Rattle.std.proofs.Math.Dec.{ltb}
 use borrow.Author.Tests.{eq-eqb, ne_eqb, lt-ltb, eqb-true, eqb-false, ltb-true, ltb-false}
@@ -21,30 +22,31 @@ use Rattle.port_tables.specs.declared.direction.Direction.TheVariants.{Incoming,
 use Rattle.port_tables.specs.declared.port_entry.PortMeta.{PortMeta}
 use Rattle.port_tables.specs.declared.port_entry.PortEntry.{PortEntry}
 use Rattle.port_tables.specs.declared.port_entry.PortEntry.TheVariants as port_variants
-use Rattle.multiportgraph.specs.Reading.{is_hidden, is_split, seen_entry, seen, owner_of, copy_node, copy_side, subports, subport_at, end_at, port_of, subport_of, standing, standing_of, far_subport, port_place}
+use Rattle.multiportgraph.specs.Reading.{is_hidden, is_split, seen_entry, seen, owner_of, copy_node, copy_side, subports, subport_at, end_at, subport_of, standing, standing_of, far_subport, port_place}
 use Rattle.multi_tables.specs.Forms.{hidden, visible, inner, lacking, End, subport#, flag_at}
 use Rattle.multiportgraph.specs.Calls.{cut_plain}
 use Rattle.multi_tables.specs.FormSteps.{flag_is}
 use Rattle.multiportgraph.specs.WellFormed.{inner#, copy_place, Fine, IsEnd, Seen}
-use Rattle.multiportgraph.specs.Ends.{BlockPort, EndOf, block_seen, Hangs, split_has_copy, copy_count, copy_valid, port_of_lem, owner_of_lem, end_side, end_read, ends_join_ends, subport_of_hidden, subport_of_block, outer_seen, place_of_sub, unsplit_is_end}
-use Rattle.multi_tables.specs.TableReads.{far_in, owner_in, seen_owner, seen_in, in_row, owns_up, owns_down, run_up, run_down, count_beside, first_beside, end_beside, subports_in, first_in, end_in, copy_beside, subport_owned, subport_in, leaps_down, leap_down, row_below, place_owned, place_in, far_place_in, wire_in, wire_end_in, plain_in}
+use Rattle.multiportgraph.specs.Ends.{BlockPort, EndOf, block_seen, Hangs, split_has_copy, copy_count, copy_valid, owner_of_lem, end_side, end_read, ends_join_ends, subport_of_hidden, subport_of_block, outer_seen, place_of_sub, unsplit_is_end}
+use Rattle.multi_tables.specs.TableReads.{far_in, owner_in, seen_owner, seen_in, owns_up, owns_down, run_up, run_down, count_beside, first_beside, end_beside, subports_in, first_in, end_in, copy_beside, subport_owned, subport_in, leaps_down, leap_down, row_below, place_owned, place_in, far_place_in, wire_in, wire_end_in, plain_in}
 use Rattle.multiportgraph.specs.declared.multiportgraph.MultiPortGraph.{MultiPortGraph}
 use Rattle.multi_tables.specs.declared.answers.SubportIndex.{SubportIndex}
 use Rattle.multi_tables.specs.EndAnswers.{unplaced}
+use Rattle.multi_tables.specs.TableReadSteps.{run_ends}
 use Rattle.multiportgraph.specs.Ends.{twice_reversed}
 
--- Runs.
+-- Ports.
 
-run_from_lem : (t : ℕ → Bool) (i k n : ℕ) → ((j : ℕ) → j < k → t (i + j) ≡ true) → k ≤ n → (k < n → t (i + k) ≡ false) → in_row t i n ≡ k
-unfolding in_row
-run_from_lem t i k zero all l end = omega arith
-run_from_lem t i zero (suc n) all l end =
-    let e : i + 0 ≡ i = omega arith in
-    rw (ap t (sym e) ∙ end (omega arith))
-run_from_lem t i (suc k) (suc n) all l end =
-    let e : i + 0 ≡ i = omega arith in
-    let r = run_from_lem t (suc i) k n (λ j h. ap t (omega arith) ∙ all (suc j) (omega arith)) (omega arith) (λ h. ap t (omega arith) ∙ end (omega arith)) in
-    rw (ap t (sym e) ∙ all 0 (omega arith)) (ap suc r)
+-- a port number reads as the tables tell it
+pub seen_read : (m : MultiPortGraph) → length m.copy_node ≡ node_slots → (p : ℕ) → seen_in m.graph.port_meta m.copy_node p ≡ seen m p
+unfolding seen_in seen is_hidden
+seen_read m long p = go (port_at m.graph p)
+  where
+    go : (e : PortEntry) → seen_owner m.copy_node e ≡ seen_entry m e
+    go port_variants.Free = refl
+    go (port_variants.Port k) = ap (λ (b : Bool). cond b hidden (visible k.node.0 k.direction)) (flag_is m.copy_node node_slots k.node.0 long)
+
+-- Runs.
 
 -- a row of slots that alone has an owner
 pub record Row (t : List ℕ) (x start count : ℕ) : Type 0 where
@@ -60,7 +62,7 @@ module _ {t : List ℕ} {x start count : ℕ} (r : Row t x start count) where
   unfolding run_up owns_up
   row_up i a b =
       let ends = r.ends in
-      run_from_lem (owns_up t x i) 0 (start + count - i) port_slots
+      run_ends (owns_up t x i) 0 (start + count - i) port_slots
       (λ j h. eq-eqb (at t (i + (0 + j))) x (in_row_lem (i + (0 + j)) (omega arith) (omega arith)))
       (omega arith)
       (λ h. ne_eqb (at t (i + (0 + (start + count - i)))) x (λ e. let o = r.only (i + (0 + (start + count - i))) e in omega arith))
@@ -69,7 +71,7 @@ module _ {t : List ℕ} {x start count : ℕ} (r : Row t x start count) where
   unfolding run_down owns_down
   row_down i a b =
       let ends = r.ends in
-      run_from_lem (owns_down t x i) 0 (i - start) (min i port_slots)
+      run_ends (owns_down t x i) 0 (i - start) (min i port_slots)
       (λ j h. eq-eqb (at t (i - suc (0 + j))) x (in_row_lem (i - suc (0 + j)) (omega arith) (omega arith)))
       (omega arith)
       (λ h. ne_eqb (at t (i - suc (0 + (i - start)))) x (λ e. let o = r.only (i - suc (0 + (i - start))) e in omega arith))
@@ -78,7 +80,7 @@ module _ {t : List ℕ} {x start count : ℕ} (r : Row t x start count) where
   unfolding leap_down leaps_down
   row_leap i a b =
       let ends = r.ends in
-      run_from_lem (leaps_down t x i) 0 ((i - start) / 32) (min i port_slots / 32)
+      run_ends (leaps_down t x i) 0 ((i - start) / 32) (min i port_slots / 32)
       (λ j h. eq-eqb (at t (i - 32 * suc (0 + j))) x (in_row_lem (i - 32 * suc (0 + j)) (omega arith) (omega arith)))
       (omega arith)
       (λ h. ne_eqb (at t (i - 32 * suc (0 + (i - start) / 32))) x (λ e. let o = r.only (i - 32 * suc (0 + (i - start) / 32)) e in omega arith))
@@ -236,16 +238,6 @@ module _ {m : MultiPortGraph} {M : Model} (f : Fine m M) where
   pub mark_told : (p : ℕ) → flag_at m.multiport port_slots p ≡ is_split m p
   unfolding is_split
   mark_told p = flag_is m.multiport port_slots p f.marks_long
-
-  -- Ports.
-
-  pub seen_read : (p : ℕ) → seen_in m.graph.port_meta m.copy_node p ≡ seen m p
-  unfolding seen_in seen
-  seen_read p = go (port_at m.graph p)
-    where
-      go : (e : PortEntry) → seen_owner m.copy_node e ≡ seen_entry m e
-      go port_variants.Free = refl
-      go (port_variants.Port k) = ap (λ (b : Bool). cond b hidden (visible k.node.0 k.direction)) (flag_told k.node.0)
 
   -- Subports and ends.
   module _ (x : model.InnerPlace) (k : Hangs m M x) where
@@ -406,15 +398,6 @@ module _ {m : MultiPortGraph} {M : Model} (f : Fine m M) where
         ap (λ (q : ℕ). owner_of m.graph (far_in m.graph.port_link q)) (sym block.slot)
         ∙ (ap (owner_of m.graph) (far_is block.place c k.back)
         ∙ (owner_of_lem f c (copy_valid f k.copy k.is_copy) ∙ (sym k.copy_is ∙ ap (copy_node m) block.slot)))
-
-    pub copy_read : is_split m p ≡ true → far_in m.graph.port_link p ≡ port_of m.graph (copy_node m p) (copy_side m (copy_node m p)) 0
-    copy_read t =
-        let k = split_there t in
-        let c = copy_place m k.copy in
-        ap (far_in m.graph.port_link) (sym block.slot)
-        ∙ (far_is block.place c k.back
-        ∙ (sym (port_of_lem f k.copy (copy_side m k.copy) 0 (copy_valid f k.copy k.is_copy))
-        ∙ ap (λ (n : ℕ). port_of m.graph n (copy_side m n) 0) (sym k.copy_is ∙ ap (copy_node m) block.slot)))
 
     pub end_read_off : (o : ℕ) → end_in m.multiport m.graph.port_link m.graph.port_meta p d o ≡ end_at m p d o
     unfolding end_in end_at

@@ -20,7 +20,6 @@ use Rattle.port_tables.specs.declared.index.PortIndex.{PortIndex}
 use Rattle.port_tables.specs.declared.node_entry.NodeMeta.{NodeMeta}
 use Rattle.portgraph.specs.declared.portgraph.PortGraph.{PortGraph}
 use Rattle.portgraph.specs.declared.alloc.AddError.{AddError}
-use Rattle.portgraph.specs.declared.alloc.NodeAdded.{NodeAdded}
 use Rattle.portgraph.specs.declared.resize.PortsSet.{PortsSet}
 use Rattle.multiportgraph.specs.Graph.{multi, with_graph}
 use Rattle.multiportgraph.specs.Reading.{port_of, copy_node}
@@ -36,7 +35,8 @@ use Rattle.multiportgraph.specs.GrowLaws.{GrowTables, by_copy, grow_tables, grow
 use Rattle.multiportgraph.specs.declared.multiportgraph.MultiPortGraph.{MultiPortGraph}
 use Rattle.multiportgraph.specs.HiddenNodes.{copy_incoming, copy_outgoing, split_graph, split_port, split_by, split, recounted, more, enough, grown_by, grow, split_under, grow_under}
 use Rattle.multiportgraph.specs.Tidy.{left_incoming, left_outgoing}
-use Rattle.multiportgraph.specs.PrepareSteps.{lower_wf, set_kept}
+use Rattle.multiportgraph.specs.CallSteps.{lower_wf}
+use Rattle.multiportgraph.specs.PrepareSteps.{set_kept, added_is}
 use Rattle.multiportgraph.specs.Presumed.{LinkedPort, GrowPort}
 use Rattle.portgraph.specs.declared.resize.SetError.{SetError}
 use Rattle.multi_tables.specs.declared.answers.Refusal.TheVariants.{NoRoom}
@@ -45,9 +45,6 @@ use Rattle.portgraph.specs.declared.resize.SetError.TheVariants as set_error
 -- A split.
 module _ {m : MultiPortGraph} {p : ℕ} {d : Direction} (b : LinkedPort m p d) {i o : ℕ} {h : PortGraph} {r : Result (NodeIndex × PortIndex) AddError} (e₁ : i ≡ copy_incoming d) (e₂ : o ≡ copy_outgoing d)
     (e₃ : h ≡ (add_node m.graph i o).graph) (e₄ : r ≡ (add_node m.graph i o).answer) where
-  added_is : ◌≡◌ {A = NodeAdded} (record { graph = h; answer = r }) (add_node m.graph (copy_incoming d) (copy_outgoing d))
-  added_is = (λ j. record { graph = e₃ j; answer = e₄ j }) ∙ (λ j. add_node m.graph (e₁ j) (e₂ j))
-
   pub added_wf : Wf h
   added_wf = subst Wf (sym e₃) (wf_add m.graph i o (lower_wf m b.block.wf))
 
@@ -68,7 +65,7 @@ module _ {m : MultiPortGraph} {p : ℕ} {d : Direction} (b : LinkedPort m p d) {
             let w = b.block.wf.fine in
             let x = block_seen w p b.block.node d b.block.is in
             transport (λ k. SplitTables (x.slot k) (x.side k) h n.0 f.0)
-            (split_tables w x.place y x.is_seen j (record { graph = h; answer = r }) (added_is ∙ (λ k. add_node m.graph (copy_incoming (sym x.side k)) (copy_outgoing (sym x.side k)))) n f a)
+            (split_tables w x.place y x.is_seen j (record { graph = h; answer = r }) (added_is m e₁ e₂ e₃ e₄ ∙ (λ k. add_node m.graph (copy_incoming (sym x.side k)) (copy_outgoing (sym x.side k)))) n f a)
 
     pub split_done : {ca copy sa old w : ℕ} {l : PortGraph} {marks flags : List Bool} →
         ca ≡ copy_at d →
@@ -89,7 +86,7 @@ module _ {m : MultiPortGraph} {p : ℕ} {d : Direction} (b : LinkedPort m p d) {
         let marks_is : marks ≡ set (set m.multiport (port_of h n.0 (reversed d) 0) true) p true = rw (k₂, copy_is) (two_puts m.multiport port_slots _ p true true w.marks_long) in
         let flags_is : flags ≡ set m.copy_node n.0 true = rw (k₄, k₃) (put_flag_is m.copy_node node_slots n.0 true w.flags_long) in
         (λ j. (multi (graph_is j) (marks_is j) (flags_is j) (m.copy_node_count + 1) (m.subport_count + 2) m.release, Ok (new_is j, 1)))
-        ∙ ((λ j. prepared_as m (split_by m p d h (sym a j))) ∙ (λ j. prepared_as m (split_by m p d (added_is j).graph (added_is j).answer)))
+        ∙ ((λ j. prepared_as m (split_by m p d h (sym a j))) ∙ (λ j. prepared_as m (split_by m p d (added_is m e₁ e₂ e₃ e₄ j).graph (added_is m e₁ e₂ e₃ e₄ j).answer)))
 
 -- One more subport.
 

@@ -360,7 +360,7 @@ module _ {m : MultiPortGraph} {M : Model} (f : Fine m M) (x : model.InnerPlace) 
     far_slot = slot_alike f (copy_frame f x h.copy h.is_copy h.from) y (copy_alike f x h.copy h.is_copy h.from y far_end.valid far_elsewhere far_not_main)
 
     far_outer : outer bare bare_model y ≡ outer m M y
-    far_outer = outer_kept f (copy_frame f x h.copy h.is_copy h.from) y (hidden_other f x h.copy h.is_copy h.from y.node far_elsewhere)
+    far_outer = outer_kept f (copy_frame f x h.copy h.is_copy h.from) y (hidden_other m (slot_of M.node x) h.copy y.node far_elsewhere)
 
     near_outer : outer bare bare_model x ≡ outer m M first
     near_outer = outer_of_block went.fine x went.is_seen.1 ∙ sym (h.outers 0)

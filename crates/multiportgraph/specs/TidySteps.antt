@@ -22,7 +22,6 @@ use Rattle.portgraph.specs.PlaceLaws.{link_none, link_to}
 use Rattle.port_tables.specs.declared.direction.Direction.{Direction}
 use Rattle.portgraph.specs.declared.portgraph.PortGraph.{PortGraph}
 use Rattle.portgraph.specs.declared.portgraph.PortsLinked.{PortsLinked}
-use Rattle.portgraph.specs.declared.resize.PortsSet.{PortsSet}
 use Rattle.multiportgraph.specs.Reading.{far_port, has_link, port_of, is_split, copy_node, subports, subport_at}
 use Rattle.multi_tables.specs.Forms.{put_flag}
 use Rattle.multiportgraph.specs.WellFormed.{inner#, Fine}
@@ -200,41 +199,41 @@ left_sized {m} {p} {d} {count} {left} b =
 -- A hidden node that is left with some of its subports.
 module _ {m : MultiPortGraph} {p : ℕ} {d : Direction} {count left : ℕ} (b : LeftPort m p d count left) where
   pub drop_step :
-      {copy node i o len far w₁ w₂ w₃ w₄ gone subs : ℕ} {r : PortsSet} {t₁ t₂ : List Bool} →
+      {copy node i o len far w₁ w₂ w₃ w₄ gone subs : ℕ} {low : PortGraph} {t₁ t₂ : List Bool} →
       w₁ ≡ p →
       copy ≡ far_in m.graph.port_link w₁ →
       node ≡ owner_in m.graph.port_meta copy →
       i ≡ left_incoming d left →
       o ≡ left_outgoing d left →
       len ≡ enough →
-      r ≡ set_num_ports m.graph node i o len →
+      low ≡ (set_num_ports m.graph node i o len).graph →
       w₂ ≡ p →
-      far ≡ far_in r.graph.port_link w₂ →
+      far ≡ far_in low.port_link w₂ →
       w₃ ≡ copy →
       t₁ ≡ put_flag m.multiport port_slots w₃ false →
       w₄ ≡ far →
       t₂ ≡ put_flag t₁ port_slots w₄ true →
       gone ≡ count - left →
       subs ≡ m.subport_count - gone →
-      ◌≡◌ {A = MultiPortGraph} (multi r.graph t₂ m.copy_node m.copy_node_count subs m.release) (drop_subports m (copy_node m p) d left)
+      ◌≡◌ {A = MultiPortGraph} (multi low t₂ m.copy_node m.copy_node_count subs m.release) (drop_subports m (copy_node m p) d left)
   unfolding drop_subports recounted subports
-  drop_step {copy} {node} {i} {o} {len} {far} {w₁} {w₂} {w₃} {w₄} {gone} {subs} {r} {t₁} {t₂} k₁ k₂ k₃ k₄ k₅ k₆ k₇ k₈ k₉ l₁ l₂ l₃ l₄ l₅ l₆ =
+  drop_step {copy} {node} {i} {o} {len} {far} {w₁} {w₂} {w₃} {w₄} {gone} {subs} {low} {t₁} {t₂} k₁ k₂ k₃ k₄ k₅ k₆ k₇ k₈ k₉ l₁ l₂ l₃ l₄ l₅ l₆ =
       let s = b.port in
       let g = s.block.wf.fine in
       let copy_is_lem : copy ≡ far_in m.graph.port_link p = k₂ ∙ ap (far_in m.graph.port_link) k₁ in
       let node_is : node ≡ copy_node m p = k₃ ∙ (ap (owner_in m.graph.port_meta) copy_is_lem ∙ owner_read g p s.block.node d s.block.is s.split) in
-      let set_is : r ≡ set_num_ports m.graph (copy_node m p) (left_incoming d left) (left_outgoing d left) enough = k₇ ∙ (λ j. set_num_ports m.graph (node_is j) (k₄ j) (k₅ j) (k₆ j)) in
-      let far_is' : far ≡ far_in r.graph.port_link p = k₉ ∙ ap (far_in r.graph.port_link) k₈ in
-      let marks_is : t₂ ≡ set (set m.multiport (far_in m.graph.port_link p) false) (far_in r.graph.port_link p) true =
+      let set_is : low ≡ (set_num_ports m.graph (copy_node m p) (left_incoming d left) (left_outgoing d left) enough).graph = k₇ ∙ (λ j. (set_num_ports m.graph (node_is j) (k₄ j) (k₅ j) (k₆ j)).graph) in
+      let far_is' : far ≡ far_in low.port_link p = k₉ ∙ ap (far_in low.port_link) k₈ in
+      let marks_is : t₂ ≡ set (set m.multiport (far_in m.graph.port_link p) false) (far_in low.port_link p) true =
       rw (l₄, l₂, l₃, l₁, far_is', copy_is_lem) (two_puts m.multiport port_slots _ _ false true g.marks_long) in
       let subs_is : subs ≡ m.subport_count - (num_ports m.graph (copy_node m p) d - left) = rw (l₆, l₅, b.counts) refl in
-      (λ j. multi (set_is j).graph (marks_told set_is marks_is j) m.copy_node m.copy_node_count (subs_is j) m.release)
+      (λ j. multi (set_is j) (marks_told set_is marks_is j) m.copy_node m.copy_node_count (subs_is j) m.release)
       ∙ ap (λ (u : PortGraph). with_subports (recounted m (copy_node m p) u) (m.subport_count - (num_ports m.graph (copy_node m p) d - left))) (sym (left_sized b).0)
     where
-      marks_told : r ≡ set_num_ports m.graph (copy_node m p) (left_incoming d left) (left_outgoing d left) enough →
-          t₂ ≡ set (set m.multiport (far_in m.graph.port_link p) false) (far_in r.graph.port_link p) true →
+      marks_told : low ≡ (set_num_ports m.graph (copy_node m p) (left_incoming d left) (left_outgoing d left) enough).graph →
+          t₂ ≡ set (set m.multiport (far_in m.graph.port_link p) false) (far_in low.port_link p) true →
           t₂ ≡ (recounted m (copy_node m p) (set_num_ports m.graph (copy_node m p) (left_incoming d left) (left_outgoing d left) enough).graph).multiport
-      marks_told e q = q ∙ (ap (λ (u : PortsSet). set (set m.multiport (far_in m.graph.port_link p) false) (far_in u.graph.port_link p) true) e ∙ sym (left_sized b).1)
+      marks_told e q = q ∙ (ap (λ (u : PortGraph). set (set m.multiport (far_in m.graph.port_link p) false) (far_in u.port_link p) true) e ∙ sym (left_sized b).1)
 
 -- where all subports are left nothing changes
 all_left : {m : MultiPortGraph} {p : ℕ} {d : Direction} (b : SplitPort m p d) (left : ℕ) → left ≡ subports_left m p d → subports m p d ≤ left → m ≡ drop_subports m (copy_node m p) d left

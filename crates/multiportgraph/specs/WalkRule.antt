@@ -1,5 +1,6 @@
 -- The walk over all wires: the list of all wires ascends, the cursor gives it whole, and it has exactly the wires of the model,
 -- each once. So it is known by the set of its wires.
+use Rattle.std.proofs.lemmas.List.{length-map}
 use Rattle.std.specs.Prelude.{◌≡◌, Bool, ◌⊎◌, ◌↔◌, eqb, ltb, length, Option, Some, None, Result, Ok, Err}
 use Rattle.std.proofs.Math.Path.{refl, sym, ap, subst}
 use Rattle.std.proofs.Common.{◌∙◌, ⊎_elim}
@@ -23,7 +24,7 @@ use Rattle.multiportgraph.specs.Reading.{owner_of, port_of, is_hidden, is_split,
 use Rattle.multi_tables.specs.Forms.{visible, End, inner, lacking, subport#, wire_to}
 use Rattle.multiportgraph.specs.Wires.{is_block, blocks, ports_of_side, subports_of_port, subports_of_side, wire_of, side_links, all_wires, is_beyond, first_item, wires_beyond, step_wires, start_wires, Walked, walked_on, walk_by, walk_wires, place_of, wire_places, long_walk, walked, wires_walked, held_at}
 use Rattle.multiportgraph.specs.WellFormed.{inner#, copy_place, Fine, Seen, lift, outer, IsEnd, WireIn}
-use Rattle.port_tables.specs.Listing.{Apart, member_right, member_flat_map, flat_map_member, member_map, map_member, length_map, member_filter, filter_member, member_range, range_member, filter_flat_map, flat_map_beyond, filter_rest, rising_by_items, rising_filter, rising_flat_map, rising_map, range_rises, apart_below, rising_once, numbers_apart}
+use Rattle.port_tables.specs.Listing.{Apart, member_right, member_flat_map, flat_map_member, member_map, map_member, member_filter, filter_member, member_range, range_member, filter_flat_map, flat_map_beyond, filter_rest, rising_by_items, rising_filter, rising_flat_map, rising_map, range_rises, apart_below, rising_once, numbers_apart}
 use Rattle.multiportgraph.specs.Ends.{Hangs, ends_join_ends, place_of_sub, subport_of_lem, main_side, owner_of_lem, port_of_lem, count_of_lem, seen_block, main_seen, end_side, split_has_copy, one_copy, outer_of_block, unsplit_is_end}
 use Rattle.multiportgraph.specs.declared.multiportgraph.MultiPortGraph.{MultiPortGraph}
 use Rattle.multi_tables.specs.declared.answers.SubportIndex.{SubportIndex}
@@ -32,7 +33,7 @@ use Rattle.multiportgraph.specs.declared.iter.Wires.{Wires}
 use Rattle.port_tables.specs.Places.{Place, Wire}
 use Rattle.multi_tables.specs.declared.answers.Refusal.{Refusal}
 use Rattle.multi_tables.specs.declared.answers.PortPlace.{PortPlace}
-use Rattle.multiportgraph.specs.ScanLaws.{wire_stands}
+use Rattle.multiportgraph.specs.ScanLaws.{wire_stands, subport_stands}
 
 -- a listed subport: the port x of a block that it stands at, and the end z that it is
 pub record SubportIs (m : MultiPortGraph) (M : Model) (x z : model.InnerPlace) (s : SubportIndex) : Type 0 where
@@ -98,7 +99,7 @@ abbrev pub Earlier : Wire → Wire → Type 0
 Earlier v w = Lex v.out.node v.out.pos v.out.offset w.out.node w.out.pos w.out.offset
 
 -- a subport has one wire or none, from itself
-wire_rises : (R : SubportLink → SubportLink → Type 0) (m : MultiPortGraph) (d : Direction) (s : SubportIndex) → Rising R (wire_of m d s)
+pub wire_rises : (R : SubportLink → SubportLink → Type 0) (m : MultiPortGraph) (d : Direction) (s : SubportIndex) → Rising R (wire_of m d s)
 unfolding wire_of
 wire_rises R m d s = go (link_of_end m s.port.0 (end_at m s.port.0 d s.subport_offset))
   where
@@ -106,16 +107,6 @@ wire_rises R m d s = go (link_of_end m s.port.0 (end_at m s.port.0 d s.subport_o
     go (Ok (Some (t, x))) = ((λ y i. absurd i), tt)
     go (Ok None) = tt
     go (Err r) = tt
-
--- the subports of a port stand at it, by ascending offset
-subport_at : (m : MultiPortGraph) (p : ℕ) (s : SubportIndex) → Member s (subports_of_port m Outgoing p) → s.port.0 ≡ p
-unfolding subports_of_port
-subport_at m p s = go (is_split m p)
-  where
-    go : (b : Bool) → Member s (cond b (map (subport# p) (range 0 (subports m p Outgoing))) (subport# p 0 ∷ [])) → s.port.0 ≡ p
-    go true i = ap (λ (t : SubportIndex). t.port.0) (member_map (subport# p) s (range 0 (subports m p Outgoing)) i).2
-    go false (inl e) = ap (λ (t : SubportIndex). t.port.0) e
-    go false (inr i) = absurd i
 
 subports_rise : (m : MultiPortGraph) (p : ℕ) → Rising (Ahead m) (subports_of_port m Outgoing p)
 unfolding subports_of_port
@@ -473,8 +464,8 @@ module _ {m : MultiPortGraph} {M : Model} (f : Fine m M) where
   side_subports_rise n =
       rising_flat_map ◌<◌ (Ahead m) (subports_of_port m Outgoing) (ports_of_side m Outgoing n) (ports_rise n) (λ p i. subports_rise m p)
       (λ p q s t i j l h k.
-      let a = subport_at m p s h in
-      let b = subport_at m q t k in
+      let a = subport_stands m Outgoing p s h in
+      let b = subport_stands m Outgoing q t k in
       let c = owner_of_port n p i in
       let d = owner_of_port n q j in
       inr ((cc), inl (omega arith)))
@@ -608,7 +599,7 @@ module _ {m : MultiPortGraph} {M : Model} (f : Fine m M) where
       let b = slot_in_range f.good r.2.z r.2.start.end.valid in
       let q = g.2 in
       omega arith) in
-      let e = length_map start_port (all_wires m) in
+      let e = length-map (all_wires m) start_port in
       omega arith
 
   -- the walk from the start gives the whole list, and ends
@@ -616,7 +607,7 @@ module _ {m : MultiPortGraph} {M : Model} (f : Fine m M) where
   unfolding walked
   walk_is_listing = let h = few_wires in walk_gives_all (all_wires m) refl long_walk (omega arith)
 
-  walked_places : wires_walked m ≡ map (wire_places m) (all_wires m)
+  pub walked_places : wires_walked m ≡ map (wire_places m) (all_wires m)
   unfolding wires_walked
   walked_places = ap (λ (r : Walked). map (wire_places m) r.items) walk_is_listing
 

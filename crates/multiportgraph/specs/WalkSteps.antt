@@ -1,10 +1,12 @@
 -- Steps of the walks over blocks, ports and a block's ports, over plain values.
+use Rattle.port_tables.specs.declared.index.NodeIndex.{NodeIndex}
+use Rattle.std.specs.Option.{option_map_or}
 use Rattle.portgraph.specs.WalkLaws.{some_is_node}
 use Rattle.std.specs.Prelude.{◌≡◌, Bool, eqb, leb, get_or, length, Option, Some, None, Ok, Err}
-use Rattle.std.proofs.Math.Path.{refl, sym, ap, fun_ext}
-use Rattle.std.proofs.Common.{◌∙◌, eq-eqb, ne_eqb}
+use Rattle.std.proofs.Math.Path.{sym, ap, fun_ext}
+use Rattle.std.proofs.Common.{◌∙◌, add-one}
 use Rattle.std.proofs.Math.Bool.{true, false, cond}
-use mathlib.Core.List.{List, [], ◌∷◌}
+use mathlib.Core.List.{List}
 use Prim.Native.Nat.{ℕ, suc, ◌+◌, ◌-◌, ◌≤◌, ◌<◌, max}
 use native.Mathlib.Omega.{arith}
 use Rattle.port_tables.specs.Limits.{node_slots, port_slots}
@@ -24,7 +26,7 @@ use Rattle.multiportgraph.specs.TableReadLaws.{seen_read}
 use Rattle.multiportgraph.specs.Wires.{is_block, blocks}
 use Rattle.multiportgraph.specs.Walks.{is_seen, held_seen, both_seen, between, node_held, blocks_left, step_nodes, step_nodes_back, all_ports, ports_left, step_all_ports, step_all_ports_back, ports_of_node, step_node_ports}
 use Rattle.port_tables.specs.Listing.{filter_same}
-use Rattle.multiportgraph.specs.ScanLaws.{filter_swap, range_between, block_not_hidden, block_ports_rest, row_fits}
+use Rattle.multiportgraph.specs.ScanLaws.{first_told, last_told, filter_swap, range_between, block_not_hidden, block_ports_rest, row_fits}
 use Rattle.multiportgraph.specs.LookupSteps.{block_at, meta_is}
 use Rattle.multiportgraph.specs.WalkScans.{held_in, block_in, ports_in}
 use Rattle.multiportgraph.specs.declared.multiportgraph.MultiPortGraph.{MultiPortGraph}
@@ -37,18 +39,9 @@ use Rattle.port_tables.specs.declared.index.PortIndex.{PortIndex}
 
 -- What a cursor holds.
 
-module _ (owners : List ℕ) (flags : List Bool) (held : ℕ) where
-  pub held_none : held ≡ 0 → true ≡ held_in owners flags held
-  unfolding held_in
-  held_none e = rw (eq-eqb held 0 e)
-
-  pub held_by : (s : Port) → (held ≡ 0 → ⊥) → seen_in owners flags (held - 1) ≡ s → is_seen s ≡ held_in owners flags held
-  unfolding held_in
-  held_by s h e = rw (ne_eqb held 0 h, e)
-
 pub held_read : (m : MultiPortGraph) → MultiWf m → (held : ℕ) → held_in m.graph.port_meta m.copy_node held ≡ held_seen m held
 unfolding held_in
-held_read m w held = ap (λ (s : Port). cond (eqb held 0) true (is_seen s)) (seen_read w.fine (held - 1))
+held_read m w held = ap (λ (s : Port). cond (eqb held 0) true (is_seen s)) (seen_read m w.fine.flags_long (held - 1))
 
 -- a block with the port that a cursor holds
 module _ (m : MultiPortGraph) (n : ℕ) where
@@ -61,38 +54,6 @@ module _ (m : MultiPortGraph) (n : ℕ) where
       ap (λ (x : Bool). cond x (held_seen m held) false) (sym (block_at m n (Ok k) e)) ∙ sym (held_read m w held) ∙ h
 
 -- Blocks and ports that are left, from either end.
-
--- what is made of the first and of the last of a list, by whether there is one
-module _ {B : Type 0} (x : B) (f : ℕ → B) where
-  first_by : (l : List ℕ) (p : ℕ) → ◌≡◌ {A = Option ℕ} (Some p) (on_first None Some l) → f p ≡ on_first x f l
-  unfolding on_first
-  first_by [] p e = let z : ◌≡◌ {A = ℕ} 0 1 = cc in absurd (omega arith)
-  first_by (y ∷ l) p e = let g : p ≡ y = cc in ap f g
-
-  first_lacks : (l : List ℕ) → ◌≡◌ {A = Option ℕ} None (on_first None Some l) → x ≡ on_first x f l
-  unfolding on_first
-  first_lacks [] e = refl
-  first_lacks (y ∷ l) e = let z : ◌≡◌ {A = ℕ} 0 1 = cc in absurd (omega arith)
-
-  last_after : (l : List ℕ) (y p : ℕ) → ◌≡◌ {A = Option ℕ} (Some p) (on_last (Some y) Some l) → f p ≡ on_last (f y) f l
-  unfolding on_last
-  last_after [] y p e = let g : p ≡ y = cc in ap f g
-  last_after (z ∷ l) y p e = last_after l z p e
-
-  last_there : (l : List ℕ) (y : ℕ) → ◌≡◌ {A = Option ℕ} None (on_last (Some y) Some l) → ⊥
-  unfolding on_last
-  last_there [] y e = let z : ◌≡◌ {A = ℕ} 0 1 = cc in omega arith
-  last_there (z ∷ l) y e = last_there l z e
-
-  last_by : (l : List ℕ) (p : ℕ) → ◌≡◌ {A = Option ℕ} (Some p) (on_last None Some l) → f p ≡ on_last x f l
-  unfolding on_last
-  last_by [] p e = let z : ◌≡◌ {A = ℕ} 0 1 = cc in absurd (omega arith)
-  last_by (y ∷ l) p e = last_after l y p e
-
-  last_lacks : (l : List ℕ) → ◌≡◌ {A = Option ℕ} None (on_last None Some l) → x ≡ on_last x f l
-  unfolding on_last
-  last_lacks [] e = refl
-  last_lacks (y ∷ l) e = absurd (last_there l y e)
 
 -- what a cursor with two ends has left of the numbers below c that pass a test
 left_between : (t : ℕ → Bool) (front back c : ℕ) → filter (between front back) (filter t (range 0 c)) ≡ filter t (range front (end_before back c - front))
@@ -140,33 +101,20 @@ module _ (m : MultiPortGraph) where
           ∙ ap (λ (x : ℕ). filter (is_block m) (range c.front (x - c.front))) ee
           ∙ rw (he, hf) (sym (left_between (is_block m) c.front c.back node_slots))
 
-      pub nodes_item : (n : ℕ) → ◌≡◌ {A = Option ℕ} (Some n) (on_first None Some blocks_seen) → Some (node# n, record { front = n + 1; back = c.back }) ≡ step_nodes m c
+      -- what a search from the front, or from the back, finds is what the step gives
+      pub nodes_found : {r : Option ℕ} → r ≡ on_first None Some blocks_seen → option_map_or (λ n. Some (node# n, record { front = n + 1; back = c.back })) r None ≡ step_nodes m c
       unfolding step_nodes
-      nodes_item n e =
-          let one : n + 1 ≡ suc n = omega arith in
-          ap (λ (x : ℕ). Some (node# n, record { front = x; back = c.back })) one
-          ∙ first_by None (λ x. Some (node# x, record { front = suc x; back = c.back })) blocks_seen n e
-          ∙ ap (on_first None (λ x. Some (node# x, record { front = suc x; back = c.back }))) blocks_left_lem
+      nodes_found e =
+          first_told None (λ n. Some (node# n, record { front = n + 1; back = c.back })) _ e
+          ∙ ap (on_first None (λ n. Some (node# n, record { front = n + 1; back = c.back }))) blocks_left_lem
+          ∙ ap (λ (f : ℕ → Option (NodeIndex × Nodes)). on_first None f (blocks_left m c)) (fun_ext (λ n. ap (λ (x : ℕ). Some (node# n, record { front = x; back = c.back })) (add-one n)))
 
-      pub nodes_none : ◌≡◌ {A = Option ℕ} None (on_first None Some blocks_seen) → None ≡ step_nodes m c
-      unfolding step_nodes
-      nodes_none e =
-          first_lacks None (λ x. Some (node# x, record { front = suc x; back = c.back })) blocks_seen e
-          ∙ ap (on_first None (λ x. Some (node# x, record { front = suc x; back = c.back }))) blocks_left_lem
-
-      pub back_item : (n : ℕ) → ◌≡◌ {A = Option ℕ} (Some n) (on_last None Some blocks_seen) → Some (node# n, record { front = c.front; back = n + 1 }) ≡ step_nodes_back m c
+      pub back_found : {r : Option ℕ} → r ≡ on_last None Some blocks_seen → option_map_or (λ n. Some (node# n, record { front = c.front; back = n + 1 })) r None ≡ step_nodes_back m c
       unfolding step_nodes_back
-      back_item n e =
-          let one : n + 1 ≡ suc n = omega arith in
-          ap (λ (x : ℕ). Some (node# n, record { front = c.front; back = x })) one
-          ∙ last_by None (λ x. Some (node# x, record { front = c.front; back = suc x })) blocks_seen n e
-          ∙ ap (on_last None (λ x. Some (node# x, record { front = c.front; back = suc x }))) blocks_left_lem
-
-      pub back_none : ◌≡◌ {A = Option ℕ} None (on_last None Some blocks_seen) → None ≡ step_nodes_back m c
-      unfolding step_nodes_back
-      back_none e =
-          last_lacks None (λ x. Some (node# x, record { front = c.front; back = suc x })) blocks_seen e
-          ∙ ap (on_last None (λ x. Some (node# x, record { front = c.front; back = suc x }))) blocks_left_lem
+      back_found e =
+          last_told None (λ n. Some (node# n, record { front = c.front; back = n + 1 })) _ e
+          ∙ ap (on_last None (λ n. Some (node# n, record { front = c.front; back = n + 1 }))) blocks_left_lem
+          ∙ ap (λ (f : ℕ → Option (NodeIndex × Nodes)). on_last None f (blocks_left m c)) (fun_ext (λ n. ap (λ (x : ℕ). Some (node# n, record { front = c.front; back = x })) (add-one n)))
 
 -- All ports.
 
@@ -202,7 +150,7 @@ module _ (m : MultiPortGraph) (w : MultiWf m) (c : Ports) where
         ports_left_lem : scanned ≡ ports_left m c
         unfolding ports_in ports_left all_ports
         ports_left_lem =
-            filter_same (λ p. is_seen (seen_in m.graph.port_meta m.copy_node p)) (λ p. is_seen (seen m p)) (range front (end - front)) (λ p i. ap is_seen (seen_read w.fine p))
+            filter_same (λ p. is_seen (seen_in m.graph.port_meta m.copy_node p)) (λ p. is_seen (seen m p)) (range front (end - front)) (λ p i. ap is_seen (seen_read m w.fine.flags_long p))
             ∙ ap (λ (x : ℕ). filter (λ p. is_seen (seen m p)) (range x (end - x))) ef
             ∙ ap (λ (x : ℕ). filter (λ p. is_seen (seen m p)) (range c.front (x - c.front))) ee
             ∙ rw (front_is true ha, back_is true hb) (sym (left_between (λ p. is_seen (seen m p)) c.front c.back port_slots))
@@ -212,13 +160,13 @@ module _ (m : MultiPortGraph) (w : MultiWf m) (c : Ports) where
         ports_item_lem p e =
             let one : p + 1 ≡ suc p = omega arith in
             ap (λ (x : ℕ). Some (port# p, record { front = x; back = c.back })) one
-            ∙ first_by None (λ x. Some (port# x, record { front = suc x; back = c.back })) scanned p e
+            ∙ first_told None (λ x. Some (port# x, record { front = suc x; back = c.back })) _ e
             ∙ ap (on_first None (λ x. Some (port# x, record { front = suc x; back = c.back }))) ports_left_lem
 
         pub ports_none : ◌≡◌ {A = Option ℕ} None (on_first None Some scanned) → None ≡ step_all_ports m c
         unfolding step_all_ports
         ports_none e =
-            first_lacks None (λ x. Some (port# x, record { front = suc x; back = c.back })) scanned e
+            first_told None (λ x. Some (port# x, record { front = suc x; back = c.back })) _ e
             ∙ ap (on_first None (λ x. Some (port# x, record { front = suc x; back = c.back }))) ports_left_lem
 
         pub ports_back_item : (p : ℕ) → ◌≡◌ {A = Option ℕ} (Some p) (on_last None Some scanned) → Some (port# p, record { front = c.front; back = p + 1 }) ≡ step_all_ports_back m c
@@ -226,13 +174,13 @@ module _ (m : MultiPortGraph) (w : MultiWf m) (c : Ports) where
         ports_back_item p e =
             let one : p + 1 ≡ suc p = omega arith in
             ap (λ (x : ℕ). Some (port# p, record { front = c.front; back = x })) one
-            ∙ last_by None (λ x. Some (port# x, record { front = c.front; back = suc x })) scanned p e
+            ∙ last_told None (λ x. Some (port# x, record { front = c.front; back = suc x })) _ e
             ∙ ap (on_last None (λ x. Some (port# x, record { front = c.front; back = suc x }))) ports_left_lem
 
         pub ports_back_none : ◌≡◌ {A = Option ℕ} None (on_last None Some scanned) → None ≡ step_all_ports_back m c
         unfolding step_all_ports_back
         ports_back_none e =
-            last_lacks None (λ x. Some (port# x, record { front = c.front; back = suc x })) scanned e
+            last_told None (λ x. Some (port# x, record { front = c.front; back = suc x })) _ e
             ∙ ap (on_last None (λ x. Some (port# x, record { front = c.front; back = suc x }))) ports_left_lem
 
 -- Ports of a block.

@@ -66,7 +66,7 @@ impl MultiPortGraph {
     }
 
     // The same in place.
-    #[tactic(auto, using(crate::specs::CallSteps::block_added))]
+    #[tactic(auto, using(crate::specs::CallSteps::added_graph, crate::specs::CallSteps::added_answer, portgraph::specs::Numbered::and_numbers))]
     pub fn add_lent(
         &mut self,
         incoming: usize,

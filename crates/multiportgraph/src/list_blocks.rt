@@ -59,6 +59,7 @@ impl ListTables<'_> {
     }
 
     // Lists all blocks, which are so many; a list that is too short stays as it was.
+    #[tactic(auto, using(crate::specs::ListSteps::short_told, crate::specs::ListSteps::short_kept, crate::specs::ListSteps::full_told, crate::specs::ListSteps::full_written))]
     pub(crate) fn list_blocks(self, count: usize, list: &mut [u32]) -> Result<usize, TooShort>
         requires { (self.len ≤ node_slots) × (4 * count ≡ length (table_blocks self.nodes.now self.wires.flags.now self.len)) × (count ≤ node_slots) }
         ensures { (result ≡ list_answer count (table_blocks self.entry.nodes.now self.entry.wires.flags.now self.entry.len) list.old) × (list.new ≡ list_after (table_blocks self.entry.nodes.now self.entry.wires.flags.now self.entry.len) list.old) }

@@ -43,7 +43,7 @@ impl ListTables<'_> {
 
     // Lists the wires of a split port, by its hidden node; answers how many numbers that took.
     // Stays a loop, as those below: each turn writes where the one before ended, and a closure would have to hold the list and that place; no plainer.
-    #[tactic(auto, using(crate::specs::ListSteps::begun, crate::specs::ListSteps::items_written, crate::specs::ListSteps::split_is))]
+    #[tactic(auto, unfolding(crate::specs::ListScans::subport_wire), using(crate::specs::ListSteps::begun, crate::specs::ListSteps::items_written, crate::specs::ListSteps::split_is, crate::specs::ListSteps::item_fits, crate::specs::ListSteps::item_room))]
     fn list_split(self, list: &mut [u32], port: WireEnd, copy: NodeMeta) -> usize
         requires { length (split_wires self.nodes.now self.wires.links.now self.wires.owners.now self.wires.flags.now port.port port.node port.position copy) ≤ length list.old }
         ensures { (result ≡ length (split_wires self.entry.nodes.now self.entry.wires.links.now self.entry.wires.owners.now self.entry.wires.flags.now port.port port.node port.position copy))
@@ -81,7 +81,7 @@ impl ListTables<'_> {
     }
 
     // Lists the wires of a node's outgoing ports; answers how many numbers that took.
-    #[tactic(auto, using(crate::specs::ListSteps::begun, crate::specs::ListSteps::items_written, crate::specs::ListSteps::side_is))]
+    #[tactic(auto, unfolding(crate::specs::ListScans::place_wires), using(crate::specs::ListSteps::begun, crate::specs::ListSteps::items_written, crate::specs::ListSteps::side_is, crate::specs::ListSteps::item_fits, crate::specs::ListSteps::item_room))]
     fn list_side(self, list: &mut [u32], node: u32, meta: NodeMeta) -> usize
         requires { BlockFits meta × (length (side_wires self.nodes.now self.wires.links.now self.wires.owners.now self.wires.marks.now self.wires.flags.now node meta) ≤ length list.old) }
         ensures { (result ≡ length (side_wires self.entry.nodes.now self.entry.wires.links.now self.entry.wires.owners.now self.entry.wires.marks.now self.entry.wires.flags.now node meta))
@@ -128,6 +128,7 @@ impl ListTables<'_> {
     }
 
     // Lists all wires, which are so many; a list that is too short stays as it was. Stays beside list_blocks: what is written is each one's own.
+    #[tactic(auto, using(crate::specs::ListSteps::short_told, crate::specs::ListSteps::short_kept, crate::specs::ListSteps::full_told, crate::specs::ListSteps::full_written))]
     pub(crate) fn list_wires(self, count: usize, list: &mut [u32]) -> Result<usize, TooShort>
         requires { AllFit self.nodes.now × (self.len ≤ node_slots) × (8 * count ≡ length (table_wires self.nodes.now self.wires.links.now self.wires.owners.now self.wires.marks.now self.wires.flags.now self.len)) × (count ≤ node_slots * node_ports) }
         ensures { (result ≡ list_answer count (table_wires self.entry.nodes.now self.entry.wires.links.now self.entry.wires.owners.now self.entry.wires.marks.now self.entry.wires.flags.now self.entry.len) list.old) × (list.new ≡ list_after (table_wires self.entry.nodes.now self.entry.wires.links.now self.entry.wires.owners.now self.entry.wires.marks.now self.entry.wires.flags.now self.entry.len) list.old) }

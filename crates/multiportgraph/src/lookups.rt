@@ -107,6 +107,7 @@ impl MultiPortGraph {
     }
 
     // Whether a port is a block's.
+    #[tactic(auto, using(crate::specs::StartSteps::contains_told))]
     pub fn contains_port(&self, port: PortIndex) -> bool
         ensures { result ≡ contains_port_of self.now port.0 }
     {

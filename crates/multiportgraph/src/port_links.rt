@@ -75,7 +75,7 @@ impl PortLinks {
     }
 
     // Two methods, as next and next_back of the library's iterators.
-    #[tactic(auto, using(port_tables::specs::TableSteps::with_numbers, crate::specs::LinkWalkSteps::front_item, crate::specs::LinkWalkSteps::front_none, crate::specs::StartSteps::block_is, crate::specs::OwnTables::read_off, multi_tables::specs::NamedEndSteps::ok_told))]
+    #[tactic(auto, using(port_tables::specs::TableSteps::with_numbers, crate::specs::LinkWalkSteps::front_item, crate::specs::LinkWalkSteps::front_none, crate::specs::StartSteps::block_is, crate::specs::OwnTables::read_off, multi_tables::specs::NamedEndSteps::ok_told, crate::specs::LinkWalkSteps::front_unseen))]
     pub fn step(self, graph: &MultiPortGraph) -> Option<(SubportLink, PortLinks)>
         requires { MultiWf graph.now }
         ensures { (result ≡ step_front graph.now self) × (port_links_values result ≡ port_links_values (step_front graph.now self)) }
@@ -93,7 +93,7 @@ impl PortLinks {
         ))
     }
 
-    #[tactic(auto, using(port_tables::specs::TableSteps::with_numbers, crate::specs::LinkWalkSteps::back_link_item, crate::specs::LinkWalkSteps::back_link_end, crate::specs::StartSteps::block_is, crate::specs::OwnTables::read_off, multi_tables::specs::NamedEndSteps::ok_told))]
+    #[tactic(auto, using(port_tables::specs::TableSteps::with_numbers, crate::specs::LinkWalkSteps::back_link_item, crate::specs::LinkWalkSteps::back_link_end, crate::specs::StartSteps::block_is, crate::specs::OwnTables::read_off, multi_tables::specs::NamedEndSteps::ok_told, crate::specs::LinkWalkSteps::back_unseen))]
     pub fn step_back(self, graph: &MultiPortGraph) -> Option<(SubportLink, PortLinks)>
         requires { MultiWf graph.now }
         ensures { (result ≡ step_back graph.now self) × (port_links_values result ≡ port_links_values (step_back graph.now self)) }

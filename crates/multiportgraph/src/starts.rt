@@ -65,6 +65,7 @@ impl MultiPortGraph {
     }
 
     // Starts a walk over the links of a port.
+    #[tactic(auto, using(port_tables::specs::TableSteps::with_numbers, crate::specs::StartSteps::port_links_made, crate::specs::StartSteps::port_links_refused, crate::specs::StartSteps::passed_told))]
     pub fn port_links(&self, port: PortIndex) -> Result<PortLinks, Refusal>
         ensures { (result ≡ start_port_links self.now port) × (port_links_start_numbers result ≡ port_links_start_numbers (start_port_links self.now port)) }
     {

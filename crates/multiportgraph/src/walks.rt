@@ -44,6 +44,7 @@ impl MultiPortGraph {
     }
 
     // Whether a port is a block's.
+    #[tactic(auto, using(crate::specs::StartSteps::seen_told))]
     fn port_seen(&self, port: u32) -> bool
         ensures { result ≡ is_seen (seen_in self.now.graph.port_meta self.now.copy_node port) }
     {

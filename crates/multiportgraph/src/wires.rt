@@ -39,7 +39,7 @@ impl MultiPortGraph {
 
 impl Wires {
     // The wire that comes next: none where the port held is gone or hidden; else the walk goes on from that port's present block.
-    #[tactic(auto, using(crate::specs::WireSteps::step_start))]
+    #[tactic(auto, using(crate::specs::WireSteps::step_start, crate::specs::WireSteps::step_gone))]
     fn next_link(self, graph: &MultiPortGraph) -> Option<SubportLink>
         requires { MultiWf graph.now }
         ensures { (wires_found result ≡ step_wires graph.now self) × (link_port 0 result < port_slots) }

@@ -16,8 +16,8 @@ pub mod NodeTable
 pub mod Places
 -- laws of lists
 pub mod Listing
+pub mod Searches
 -- steps that the functions' proofs cite
 pub mod SameSides
 pub mod TableSteps
 pub mod ResizeLinkSteps
-pub mod NodeTableSteps

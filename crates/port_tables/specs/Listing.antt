@@ -9,7 +9,7 @@ use Rattle.std.proofs.Math.Logic.{inl, inr, ⊎_elim}
 use borrow.Author.Tests.{eqb-true, eqb-false, lt-ltb, le-ltb, ne_eqb, eq-eqb}
 use Rattle.port_tables.specs.Lists.{Member, range, Rising, Once}
 use Rattle.std.specs.List.{filter}
-use Rattle.port_tables.specs.Places.{Wire, flag}
+use Rattle.port_tables.specs.Places.{flag}
 use Rattle.std.proofs.Math.ListN.{replicate}
 use Rattle.std.proofs.lemmas.List.Elements.{filter-append}
 
@@ -71,9 +71,10 @@ module _ {A B : Type 0} where
   map_member f a (x ∷ l) (inr i) = inr (map_member f a l i)
   map_member f a [] x' = elim x' [ ]
 
-  pub length_map : (f : A → B) (l : List A) → length (map f l) ≡ length l
-  length_map f [] = refl
-  length_map f (x ∷ l) = ap suc (length_map f l)
+  -- functions that agree on the items
+  pub map_same_on : (f g : A → B) (l : List A) → ((x : A) → Member x l → f x ≡ g x) → map f l ≡ map g l
+  map_same_on f g [] h = refl
+  map_same_on f g (x ∷ l) h = λ j. h x (inl refl) j ∷ map_same_on f g l (λ y i. h y (inr i)) j
 
 pub member_range : (x i n : ℕ) → Member x (range i n) → (i ≤ x) × (x < i + n)
 unfolding range
@@ -271,15 +272,23 @@ without_one n (x ∷ l) r = go (eqb x n) refl (without_one n l r.1)
         omega arith
     go false e h = omega arith
 
-pub rising_once : (R : Wire → Wire → Type 0) → ((w : Wire) → R w w → ⊥) → (l : List Wire) → Rising R l → Once l
+pub once_apart : {A : Type 0} (l : List A) → Once l → Rising Apart l
+once_apart [] o = tt
+once_apart (x ∷ l) o = ((λ y i e. o.0 (subst (λ z. Member z l) (sym e) i)), once_apart l o.1)
+
+pub rising_once : {A : Type 0} (R : A → A → Type 0) → ((x : A) → R x x → ⊥) → (l : List A) → Rising R l → Once l
 rising_once R irr [] r = tt
-rising_once R irr (w ∷ l) r = ((λ i. irr w (r.0 w i)), rising_once R irr l r.1)
+rising_once R irr (x ∷ l) r = ((λ i. irr x (r.0 x i)), rising_once R irr l r.1)
 
 -- Lengths.
 
 pub range_none : (i n : ℕ) → n ≡ 0 → range i n ≡ []
 unfolding range
 range_none i n e = rw e
+
+pub range_first : (i n k : ℕ) → n ≡ suc k → range i n ≡ i ∷ range (suc i) k
+unfolding range
+range_first i n k e = rw e
 
 pub length_range : (i n : ℕ) → length (range i n) ≡ n
 unfolding range

@@ -1,6 +1,6 @@
 -- The derived test of two directions is the one of specs/Entries.antt.
-use Rattle.std.specs.Prelude.{◌≡◌, refl, Bool, not}
-use Rattle.std.proofs.Common.{ap, ◌∙◌}
+use Rattle.std.specs.Prelude.{◌≡◌, refl, Bool}
+use Rattle.std.proofs.Common.{◌∙◌}
 use denote.Enum.Bare.{sameb}
 use Rattle.port_tables.specs.Entries.{same_side}
 use Rattle.port_tables.specs.declared.direction.Direction.{Direction}
@@ -15,13 +15,3 @@ equal_sides Outgoing Outgoing = refl
 
 pub sides_compared : (d e : Direction) {r : Bool} → r ≡ sameb the_type d e → r ≡ same_side d e
 sides_compared d e h = h ∙ equal_sides d e
-
--- and the test that they differ is its opposite
-differing_sides : (d e : Direction) → not (not (sameb the_type d e)) ≡ same_side d e
-differing_sides Incoming Incoming = refl
-differing_sides Incoming Outgoing = refl
-differing_sides Outgoing Incoming = refl
-differing_sides Outgoing Outgoing = refl
-
-pub sides_differ : (d e : Direction) {r : Bool} → r ≡ not (sameb the_type d e) → not r ≡ same_side d e
-sides_differ d e h = ap not h ∙ differing_sides d e

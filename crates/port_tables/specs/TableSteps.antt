@@ -7,8 +7,9 @@ use Rattle.std.proofs.Common.{add-one, ap, ◌∙◌, arith, length-drop, suc-ad
 use Rattle.std.proofs.Math.ListN.{replicate}
 use Rattle.std.proofs.lemmas.List.Edits.{sets}
 use Rattle.std.proofs.Math.Seq.{length-take-le}
+pub use Rattle.std.proofs.Math.Seq.{set_out}
 use Rattle.port_tables.specs.Limits.{port_slots, no_port}
-use Rattle.port_tables.specs.Tables.{at, put, put_head, fill, fill_range, link_both, cut_far, cut, link_count, told_link, move_port, chain_block, cut_range, cut_count, move_up, transfer, drop_events, move_up_events, move_down_events, move_down}
+use Rattle.port_tables.specs.Tables.{at, put, put_head, fill, fill_range, link_both, cut_far, cut, link_count, told_link, move_port, cut_range, cut_count, move_up, transfer, drop_events, move_up_events, move_down_events, move_down}
 
 -- Reading and storing.
 pub at_inside : (t : List ℕ) (s : ℕ) → s < port_slots → get_or t s 0 ≡ at t s
@@ -18,10 +19,6 @@ at_inside t s h = rw (lt-ltb s port_slots h)
 pub at_outside : (t : List ℕ) (s : ℕ) → port_slots ≤ s → 0 ≡ at t s
 unfolding at
 at_outside t s h = rw (le-ltb s port_slots h)
-
-pub put_inside : (t : List ℕ) (s v : ℕ) → s < port_slots → set t s v ≡ put t s v
-unfolding put
-put_inside t s v h = rw (lt-ltb s port_slots h)
 
 pub put_head_nothing : (t : List ℕ) (n v : ℕ) → n ≤ 0 → t ≡ put_head t n v
 unfolding put_head
@@ -89,10 +86,6 @@ told_none far h = rw (eq-eqb far 0 h)
 pub told_far : (far : ℕ) → (far ≡ 0 → ⊥) → far - 1 ≡ told_link far
 unfolding told_link
 told_far far h = rw (ne_eqb far 0 h)
-
-pub chained : (t : List ℕ) (first size head : ℕ) → (size ≡ 0 → ⊥) → put t first head ≡ chain_block t first size head
-unfolding chain_block
-chained t first size head h = rw (ne_eqb size 0 h)
 
 -- an event is three stores in a row
 pub stored_event : (m : List ℕ) (e a b d : ℕ) → set (set (set m e a) (e + 1) b) (e + 2) d ≡ sets m e (a ∷ b ∷ d ∷ [])
@@ -193,10 +186,6 @@ shift_left t ascending old new n k = cond ascending (move_up t (old + k) (new + 
 
 abbrev pub shift_events_left : Bool → ℕ → ℕ → ℕ → ℕ → List ℕ
 shift_events_left ascending old new n k = cond ascending (move_up_events (old + k) (new + k) (n - k)) (move_down_events old new (n - k))
-
-pub one_link_less : (n far r : ℕ) → (far ≡ 0 → ⊥) → r ≡ n - 1 → r ≡ n - link_count far
-unfolding link_count
-one_link_less n far r e f = rw (ne_eqb far 0 e) f
 
 -- what `?` passes on
 pub passed_on : {A E : Type 0} {r : Result A E} {e : E} → IsErrAnd r (λ y. y ≡ e) → r ≡ Err e

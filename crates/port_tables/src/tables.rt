@@ -173,6 +173,7 @@ pub fn chain_block(links: &mut [u32; PORT_SLOTS], first: usize, size: usize, hea
 }
 
 // Stores a number in a lent list; outside nothing changes.
+#[tactic(auto, using(crate::specs::TableSteps::set_out))]
 pub fn store(list: &mut [u32], place: usize, value: u32)
     ensures { list.new ≡ set list.old place value }
 {

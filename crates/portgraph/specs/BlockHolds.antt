@@ -1,14 +1,14 @@
 -- Blocks of port slots, tables against model: which block is taken next, the lists of free blocks where one is taken or given back,
 -- the owners and places of the other nodes, and the cut of all links of a node's block.
 use Rattle.std.specs.Prelude.{◌≡◌, refl, Bool, true, false, cond, List, [], ◌∷◌, ℕ, suc, ◌+◌, ◌-◌, ◌≤◌, ◌<◌, eqb, leb, ltb, length, Some, None}
-use Rattle.std.proofs.Common.{sym, ◌∙◌, ap, subst, inl, arith, eqb-true, eq-eqb, ne_eqb, ltb-true, ltb-false, le-leb}
+use Rattle.std.proofs.Common.{sym, ◌∙◌, ap, subst, inl, arith, eqb-true, eq-eqb, ne_eqb, le-leb}
 use Rattle.std.proofs.Math.Dec.{eqb-suc-zero}
 use Rattle.std.proofs.lemmas.Bool.{eqb-false}
 use Rattle.port_tables.specs.Limits.{node_slots, port_slots, node_ports, free_lists}
 use Rattle.port_tables.specs.Lists.{Member}
 use Rattle.port_tables.specs.Tables.{at, head_at, put_head, own_block, cut_range, cut_count, Within}
 use Rattle.port_tables.specs.TableSteps.{put_head_nothing}
-use Rattle.portgraph.specs.TableLaws.{at_block_before, at_block_after}
+use Rattle.portgraph.specs.TableLaws.{at_fill_outside}
 use Rattle.portgraph.specs.Model.{Model, Slots, live, Who, held, idle, unused, Valid, Good, Holds, Chain, total, count_of, first_of, side_start, slot_of, number_of_first, owner_of_who, InnerPlace}
 use Rattle.portgraph.specs.Meaning.{upd, drop_join, at_node, first_or, rest, growth, next_block, give_block}
 use Rattle.portgraph.specs.Joins.{upd_elim, upd_same, upd_other}
@@ -112,12 +112,10 @@ module _ (t u heads : List ℕ) (blocks : ℕ → List ℕ) (size : ℕ) (long :
 -- outside a block its owners change nothing
 pub at_block_outside : (t : List ℕ) (n : ℕ) (m : NodeMeta) (s : ℕ) → m.incoming + m.outgoing ≤ m.capacity
     → (Within m.first_port.0 m.capacity s → ⊥) → at (own_block t n m) s ≡ at t s
-at_block_outside t n m s fits away = go (ltb s m.first_port.0) refl (ltb s (m.first_port.0 + m.capacity)) refl
-  where
-    go : (b : Bool) → ltb s m.first_port.0 ≡ b → (c : Bool) → ltb s (m.first_port.0 + m.capacity) ≡ c → at (own_block t n m) s ≡ at t s
-    go true e c d = at_block_before t n m s (ltb-true _ _ e)
-    go false e true d = absurd (away (ltb-false _ _ e, ltb-true _ _ d))
-    go false e false d = at_block_after t n m s fits (ltb-false _ _ d)
+unfolding own_block
+at_block_outside t n m s fits away =
+    at_fill_outside _ _ _ s _ (λ a b. away (omega arith, omega arith))
+    ∙ (at_fill_outside _ _ _ s _ (λ a b. away (omega arith, omega arith)) ∙ at_fill_outside _ _ _ s _ (λ a b. away (a, omega arith)))
 
 -- One node slot changes.
 module _ (node : ℕ → Slots) (n : ℕ) (v : Slots) where

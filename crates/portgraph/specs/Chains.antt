@@ -23,10 +23,6 @@ chain_frame t u h (b ∷ bs) same c =
 pub chain_push : (t u : List ℕ) (h b : ℕ) (bs : List ℕ) → at u b ≡ h → ((k : ℕ) → Member k bs → at t k ≡ at u k) → Chain t h bs → Chain u (suc b) (b ∷ bs)
 chain_push t u h b bs e same c = (refl, subst (λ (x : ℕ). Chain u x bs) (sym e) (chain_frame t u h bs same c))
 
--- the first block is taken off
-pub chain_pop : (t u : List ℕ) (h b : ℕ) (bs : List ℕ) → ((k : ℕ) → Member k bs → at t k ≡ at u k) → Chain t h (b ∷ bs) → Chain u (at t b) bs
-chain_pop t u h b bs same c = chain_frame t u (at t b) bs same c.1
-
 -- table and head determine the list
 pub chain_one : (t : List ℕ) (h : ℕ) (bs cs : List ℕ) → Chain t h bs → Chain t h cs → bs ≡ cs
 chain_one t h [] [] c d = refl

@@ -103,9 +103,6 @@ slots_apart {M} good x y h k e =
     let o : (x.side ≡ y.side) × (x.pos ≡ y.pos) = one_position (M.node x.node) x.side y.side x.pos y.pos h k' (omega arith) in
     place_by_parts x y (sym n) o.0 o.1
 
-pub idle_apart : {M : Model} → Good M → (x : InnerPlace) (k b : ℕ) → Valid M.node x → Member b (M.free_blocks k) → Within b k (slot_of M.node x) → ⊥
-idle_apart {M} good x k b h i v = held_not_idle (slot_held good x h) (good.idle_by k b (slot_of M.node x) i v)
-
 pub joined_is_valid : {M : Model} → Good M → (x y : InnerPlace) → M.join x ≡ to y → Valid M.node y
 joined_is_valid good x y e = good.join_valid y x (good.join_back x y e)
 

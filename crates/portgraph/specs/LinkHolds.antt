@@ -1,6 +1,6 @@
 -- The empty graph, and graphs after ports are linked and unlinked: their tables stand for the models that the calls mean.
 -- What each answer of linking and unlinking says of the places of the ports, and that well-formed graphs stay so.
-use Rattle.std.specs.Prelude.{◌≡◌, refl, Bool, true, false, cond, List, ◌⊎◌, ℕ, zero, suc, ◌+◌, ◌-◌, ◌<◌, leb, ltb, length, get_or, replicate, Option, Some, None, Result, Ok, Err}
+use Rattle.std.specs.Prelude.{◌≡◌, refl, Bool, true, false, cond, List, ◌⊎◌, ℕ, suc, ◌+◌, ◌-◌, ◌<◌, leb, ltb, length, get_or, replicate, Option, Some, None, Result, Ok, Err}
 use Rattle.std.proofs.Common.{sym, ◌∙◌, subst, inl, inr, arith, add-one, eq-eqb, ne_eqb}
 use Rattle.std.proofs.Math.Path.{ap}
 use Rattle.std.proofs.Math.Nat.{sub-zero}
@@ -12,12 +12,12 @@ use Rattle.port_tables.specs.Tables.{at, head_at, link_both, cut, link_count, Wi
 use Rattle.portgraph.specs.Model.{Model, Far, nowhere, to, gone, Valid, Good, Holds, Wf, slot_of, slots_of_entry, total, links_out, InnerPlace, Vacant, IsPort, Dead}
 use Rattle.portgraph.specs.Meaning.{same_place, drop_join, link_join, link_model, unlink_model}
 use Rattle.portgraph.specs.Joins.{same_side_true, same_side_false, same_side_distinct, same_side_refl}
-use Rattle.port_tables.specs.Listing.{zero_is_not_one}
+use Rattle.port_tables.specs.Listing.{zero_is_not_one, get_or-replicate_default}
 use Rattle.portgraph.specs.Lookups.{port_at}
 use Rattle.portgraph.specs.Calls.{new_graph, with_links, link_refused, link_sides, link_entries, link_ports, unlink_entry, unlink_port}
 use Rattle.port_tables.specs.TableSteps.{link_count_none}
 use Rattle.portgraph.specs.Chains.{chain_frame}
-use Rattle.portgraph.specs.Sums.{all_links, one_link_less, link_counts_one}
+use Rattle.portgraph.specs.Sums.{all_links, one_link_less, link_counts_one, total_more}
 use Rattle.portgraph.specs.LinkLaws.{Rep, far_number_is_far_is, cut_at, cut_elsewhere, cut_counts, cut_none, link_at, link_elsewhere}
 use Rattle.portgraph.specs.GoodSlots.{gone_not_live, node_below, slot_in_block, joined_is_valid}
 use Rattle.portgraph.specs.GoodLaws.{empty_model, good_empty, good_link, good_unlink}
@@ -35,11 +35,6 @@ use Rattle.portgraph.specs.declared.portgraph.NoSuchPort.{NoSuchPort}
 use Rattle.portgraph.specs.declared.portgraph.LinkError.TheVariants as link_error
 
 -- The empty graph.
-
-get_d_alike {ℓ} : {A : Type ℓ} (n i : ℕ) (a : A) → get_or (replicate n a) i a ≡ a
-get_d_alike zero i a = refl
-get_d_alike (suc n) zero a = refl
-get_d_alike (suc n) (suc i) a = get_d_alike n i a
 
 at_zeros : (t : List ℕ) (s : ℕ) → get_or t s 0 ≡ 0 → at t s ≡ 0
 unfolding at
@@ -59,8 +54,7 @@ head_of_zeros t k e = go (leb k node_ports)
 
 pub total_none : (n : ℕ) (f : ℕ → ℕ) → ((i : ℕ) → f i ≡ 0) → total n f ≡ 0
 unfolding total
-total_none zero f none = refl
-total_none (suc n) f none = let a = total_none n f none in let b = none n in omega arith
+total_none n f none = total_more n 0 f (omega arith) (λ i a b. none i)
 
 no_links : (n : ℕ) → links_out (λ (i : ℕ). gone) (λ (x : InnerPlace). nowhere) n ≡ 0
 unfolding total
@@ -107,9 +101,9 @@ unfolding new_graph
 new_holds =
     empty_holds (replicate node_slots fresh_slot) (replicate {A = ℕ} port_slots 0) (replicate {A = ℕ} port_slots 0) (replicate {A = ℕ} free_lists 0)
     (length-replicate node_slots fresh_slot) (length-replicate {A = ℕ} port_slots 0) (length-replicate {A = ℕ} port_slots 0) (length-replicate {A = ℕ} free_lists 0)
-    (λ n. get_d_alike node_slots n fresh_slot)
-    (λ s. at_zeros (replicate {A = ℕ} port_slots 0) s (get_d_alike {A = ℕ} port_slots s 0))
-    (λ k. head_of_zeros (replicate {A = ℕ} free_lists 0) k (get_d_alike {A = ℕ} free_lists k 0))
+    (λ n. get_or-replicate_default node_slots n fresh_slot)
+    (λ s. at_zeros (replicate {A = ℕ} port_slots 0) s (get_or-replicate_default port_slots s 0))
+    (λ k. head_of_zeros (replicate {A = ℕ} free_lists 0) k (get_or-replicate_default free_lists k 0))
 
 pub wf_new : Wf new_graph
 wf_new = record { model = empty_model; good = good_empty; holds = new_holds }

@@ -12,7 +12,7 @@ use Rattle.port_tables.specs.Limits.{port_slots}
 use Rattle.port_tables.specs.Entries.{ports_on}
 use Rattle.port_tables.specs.Tables.{at, put, fill_range, chain_block, shift, link_both, cut_far, cut, cut_range, link_count, cut_count, relink, move_port, move_up, move_down, transfer}
 use Rattle.portgraph.specs.TableLaws.{length_put, length_fill_range, length_chain_block, length_link_both, length_cut, length_move_port, at_put_same, at_put_other, at_fill_outside, at_chain_other}
-use Rattle.portgraph.specs.Model.{Far, nowhere, to, Slots, live, Valid, side_start, slot_of, far_number, is_linked, InnerPlace, Vacant}
+use Rattle.portgraph.specs.Model.{Far, nowhere, to, Slots, live, Valid, slot_of, far_number, is_linked, InnerPlace, Vacant}
 use Rattle.portgraph.specs.Meaning.{same_place, drop_join, link_join}
 use Rattle.port_tables.specs.TableSteps.{linked_both, cut_both}
 use Rattle.portgraph.specs.Joins.{same_place_refl, same_place_true, same_place_false, same_place_distinct, place_cases, nowhere_not_to, to_same, drop_here, drop_there, drop_joined, drop_leaves, drop_twice, drop_unlinked, drop_elsewhere, link_near, link_far, link_other, Joined, far_valid, joined_drop, joined_link}
@@ -716,10 +716,6 @@ block_place n m i =
     cond (ltb i m.incoming) (record { node = n; side = Incoming; pos = i }) (record { node = n; side = Outgoing; pos = i - m.incoming })
 
 module _ (node : ℕ → Slots) (n : ℕ) (m : NodeMeta) (here : node n ≡ live m) where
-  pub side_run : (d : Direction) (j k : ℕ) → j + k ≤ ports_on m d
-      → Run (Valid node) (slot_of node) (side_place n d j) (m.first_port.0 + (side_start (live m) d + j)) k
-  side_run d j k fits = record { there = λ i l. rw here (omega arith); numbered = λ i l. rw here (omega arith) }
-
   pub block_run : Run (Valid node) (slot_of node) (block_place n m) m.first_port.0 (m.incoming + m.outgoing)
   block_run = record { there = λ i l. valid i l (ltb i m.incoming) refl; numbered = λ i l. at_slot i (ltb i m.incoming) refl }
     where

@@ -1,6 +1,6 @@
 -- Laws of the walks over links and over all ports: from its start a walk gives the whole listing, in order, and comes to its end.
 -- Each item is a link of the model; a cursor whose node or port is gone ends the walk.
-use Rattle.port_tables.specs.Listing.{range_member, filter_member, filter_none, member_filter}
+use Rattle.port_tables.specs.Listing.{range_member, filter_member, filter_none, member_filter, rising_once, rising_filter, range_rises}
 use Rattle.std.proofs.Math.Path.{◌≡◌, refl, sym, ap}
 use Rattle.std.proofs.Common.{◌∙◌, inl, inr}
 use Rattle.std.specs.Prelude.{Bool, ◌⊎◌, ℕ, zero, suc, ◌+◌, ◌-◌, ◌≤◌, ◌<◌, max, eqb, leb, Option, Some, None}
@@ -17,7 +17,7 @@ use Rattle.port_tables.specs.Tables.{at, far_in, owner_in}
 use Rattle.portgraph.specs.Model.{Model, Good, Holds, to, Slots, gone, live, Valid, slot_of, far_number, count_of, side_start, InnerPlace}
 use Rattle.portgraph.specs.Lookups.{meta_at, port_at, is_some, contains_node, is_port, contains_port}
 use Rattle.portgraph.specs.PlaceLaws.{meta_of_place, meta_of_node, port_of_place, slot_cases}
-use Rattle.portgraph.specs.WalkLaws.{ports_few, ports_alive, Ascending, ascending_once}
+use Rattle.portgraph.specs.WalkLaws.{ports_few, ports_alive, ports_within}
 use Rattle.portgraph.specs.LinkWalks.{beyond, is_port_in, held_in, link_kept, is_node_of, is_of, link_to, ports_in, link_at, node_links, links_item, step_links, own_from, own_to, neighbour_at, neighbours, neighbours_item, step_neighbours, connections, connections_item, step_connections, all_ports, all_ports_item, step_all_ports}
 use Rattle.port_tables.specs.TableSteps.{at_outside}
 use Rattle.portgraph.specs.LinkWalkSteps.{filter_beyond, all_beyond, no_node_no_step}
@@ -29,7 +29,7 @@ use Rattle.port_tables.specs.declared.port_entry.PortEntry.TheVariants as port_v
 use Rattle.port_tables.specs.declared.node_entry.NodeMeta.{NodeMeta}
 use Rattle.portgraph.specs.declared.portgraph.PortGraph.{PortGraph}
 use Rattle.port_tables.specs.declared.sides.Sides.{Sides}
-use Rattle.port_tables.specs.declared.sides.Sides.TheVariants.{One, Both}
+use Rattle.port_tables.specs.declared.sides.Sides.TheVariants.{One}
 use Rattle.portgraph.specs.declared.link_iter.Link.{Link}
 use Rattle.portgraph.specs.declared.link_iter.NodeLinks.{NodeLinks}
 use Rattle.portgraph.specs.declared.link_iter.Neighbours.{Neighbours}
@@ -258,16 +258,10 @@ module _ (g : PortGraph) (n : ℕ) (m : NodeMeta) (meta : meta_at g n ≡ Some m
   unfolding connections
   listed_connections k = sym (ap (λ x. map (link_at g) (filter (link_to g.port_link g.port_meta k) (ports_in x (One Outgoing)))) meta)
 
--- the ports on these sides lie within the node's ports, which are few
-within : (m : NodeMeta) (sides : Sides) (p : ℕ) → ports_from m sides ≤ p → p < ports_from m sides + (ports_to m sides - ports_from m sides) → (m.first_port.0 ≤ p) × (p < m.first_port.0 + (m.incoming + m.outgoing))
-within m (One Incoming) p a b = (omega arith, omega arith)
-within m (One Outgoing) p a b = (omega arith, omega arith)
-within m Both p a b = (omega arith, omega arith)
-
 module _ (g : PortGraph) (M : Model) (good : Good M) (holds : Holds g M) where
   module _ (n : ℕ) (m : NodeMeta) (node : M.node n ≡ live m) where
     alive : (sides : Sides) (f : ℕ → Bool) (p : ℕ) → ports_from m sides ≤ p → p < ports_from m sides + (ports_to m sides - ports_from m sides) → f p ≡ true → held_in g.port_meta (suc p) ≡ true
-    alive sides f p a b h = let w = within m sides p a b in contained_is_held g p (ports_alive g M good holds n m node p w.0 w.1)
+    alive sides f p a b h = let w = ports_within m sides p a (omega arith) in contained_is_held g p (ports_alive g M good holds n m node p w.0 w.1)
 
     enough : (sides : Sides) → ports_to m sides - ports_from m sides < node_ports + 1
     enough sides =
@@ -310,6 +304,7 @@ module _ (g : PortGraph) (M : Model) (good : Good M) (holds : Holds g M) where
           let h : at g.port_link (slot_of M.node x) ≡ suc (slot_of M.node y) = holds.links x (good.join_valid x y e) ∙ ap (far_number M.node) e in
           omega arith
 
+  -- a claim that nothing below cites, as the laws of the walks below are
   pub neighbour_of_place : (x y : InnerPlace) → M.join x ≡ to y → neighbour_at g (slot_of M.node x) ≡ node# y.node
   unfolding owner_in
   neighbour_of_place x y e =
@@ -422,27 +417,17 @@ module _ (g : PortGraph) where
 
 -- What the listings hold: exactly the slots for which the test holds, ascending, so that none comes twice.
 
-later_ascends : (n : ℕ) (l : List ℕ) → Ascending (suc n) l → Ascending n l
-later_ascends n [] a = a
-later_ascends n (x ∷ l) a = ((let b : suc n ≤ x = a.0 in omega arith), a.1)
-
-pub listing_ascends : (f : ℕ → Bool) (p k : ℕ) → Ascending p (filter f (range p k))
-unfolding range
-listing_ascends f p zero = tt
-listing_ascends f p (suc k) = go (f p) (listing_ascends f (suc p) k)
-  where
-    go : (b : Bool) → Ascending (suc p) (filter f (range (suc p) k)) → Ascending p (cond b (p ∷ filter f (range (suc p) k)) (filter f (range (suc p) k)))
-    go true a = (omega arith, a)
-    go false a = later_ascends p (filter f (range (suc p) k)) a
+ports_once : (f : ℕ → Bool) (p k : ℕ) → Once (filter f (range p k))
+ports_once f p k = rising_once ◌<◌ (λ x l. omega arith) (filter f (range p k)) (rising_filter ◌<◌ f (range p k) (range_rises p k))
 
 pub no_link_twice : (m : NodeMeta) (sides : Sides) (f : ℕ → Bool) → Once (filter f (ports_of_node m sides))
-no_link_twice m sides f = ascending_once (ports_from m sides) (filter f (ports_of_node m sides)) (listing_ascends f (ports_from m sides) (ports_to m sides - ports_from m sides))
+no_link_twice m sides f = ports_once f (ports_from m sides) (ports_to m sides - ports_from m sides)
 
 -- the walk over all ports gives exactly the live ports, each once
 module _ (g : PortGraph) where
   pub no_live_port_twice : Once (all_ports g)
   unfolding all_ports
-  no_live_port_twice = ascending_once 0 (all_ports g) (listing_ascends (is_port_in g.port_meta) 0 port_slots)
+  no_live_port_twice = ports_once (is_port_in g.port_meta) 0 port_slots
 
   pub listed_port_is_live : (p : ℕ) → Member p (all_ports g) → contains_port g p ≡ true
   unfolding all_ports is_port_in

@@ -1,5 +1,6 @@
 -- What the code of a step finds: a search over consecutive slots stops at the first port of the listing beyond the port held.
-use Rattle.std.specs.Prelude.{◌≡◌, Bool, List, ◌∷◌, Option, Some, None, MatchOption, get_or}
+use Rattle.port_tables.specs.Listing.{filter_all, member_range, member_filter}
+use Rattle.std.specs.Prelude.{◌≡◌, Bool, List, ◌∷◌, Option, Some, None, get_or}
 use Rattle.std.proofs.Math.Path.{refl, ap}
 use Rattle.std.proofs.Common.{sym, ◌∙◌, arith, add-one}
 use Rattle.std.proofs.Math.Bool.{true, false, cond}
@@ -11,6 +12,9 @@ use Rattle.port_tables.specs.Lists.{range, on_first}
 use Rattle.std.specs.List.{filter}
 use Rattle.port_tables.specs.Entries.{is_node, fresh_slot, node#, port#, ports_from, ports_to}
 use Rattle.port_tables.specs.ResizeLinks.{BlockFits}
+use Rattle.port_tables.specs.Searches.{Searched, Ran, turn, Tells, found_by}
+use denote.Ref.{Bor}
+use denote.Param.Members.{Mut}
 use Rattle.portgraph.specs.Model.{Wf}
 use Rattle.portgraph.specs.Lookups.{meta_at}
 use Rattle.portgraph.specs.LookupSteps.{found_block_fits}
@@ -32,7 +36,7 @@ use Rattle.portgraph.specs.declared.link_iter.Ports.{Ports}
 -- A search of a range by `find`.
 
 -- none of the numbers of a range is one that is searched
-abbrev pub Passed : (ℕ → Bool) → ℕ → ℕ → Type 0
+abbrev Passed : (ℕ → Bool) → ℕ → ℕ → Type 0
 Passed f p end = (k : ℕ) → p ≤ k → k < end → f k ≡ false
 
 where_none : (f : ℕ → Bool) (p n : ℕ) → Passed f p (p + n) → first_where f p n ≡ p + n
@@ -50,20 +54,23 @@ where_some f p (suc n) (suc d) b e h =
     let s : p + suc d ≡ suc p + d = omega arith in
     rw (h p (omega arith) (omega arith), s) (where_some f (suc p) n d (omega arith) (rw s at e) (λ k a g. h k (omega arith) (omega arith)))
 
-pub found_where : (f : ℕ → Bool) (from end : ℕ) (r : Option ℕ) → MatchOption r (Passed f from end) (λ i. (from ≤ i) × (i < end) × (f i ≡ true) × Passed f from i)
-    → r ≡ before end (first_where f from (end - from))
+where_found : (f : ℕ → Bool) (from end : ℕ) (r : Option ℕ) → Searched f from end r → r ≡ before end (first_where f from (end - from))
 unfolding before
-found_where f from end None h =
+where_found f from end None h =
     let e = where_none f from (end - from) (λ k a b. go k a b) in
     let l : end ≤ first_where f from (end - from) = omega arith in
     rw (le-ltb (first_where f from (end - from)) end l) refl
   where
     go : (k : ℕ) → from ≤ k → k < from + (end - from) → f k ≡ false
     go k a b = h k a (omega arith)
-found_where f from end (Some i) (low, high, hit, passed) =
+where_found f from end (Some i) (low, high, hit, passed) =
     let s : from + (i - from) ≡ i = omega arith in
     let e : first_where f from (end - from) ≡ from + (i - from) = where_some f from (end - from) (i - from) (omega arith) (rw s hit) (rw s passed) in
     rw (e, s, lt-ltb i end high) refl
+
+-- what `find` gives, where its closure answers a test
+pub found_where : {F : Type 0} {g : Mut F (Bor ℕ × Unit {0}) Bool} {s : Range ℕ} {h : F} (f : ℕ → Bool) (u : Range ℕ) (r : Option ℕ) → Ran turn g s h u r → Tells g h f → r ≡ before s.end (first_where f s.start (s.end - s.start))
+found_where f u r ran told = where_found f _ _ r (found_by f u r ran told)
 
 -- a walk over the nodes is a search too
 abbrev pub node_hit : List NodeSlot → ℕ → Bool
@@ -109,15 +116,6 @@ not_stopped end q h = go (ltb q end) refl h
 
 -- A search against the listing.
 
-where_bounds : (f : ℕ → Bool) (p k : ℕ) → (p ≤ first_where f p k) × (first_where f p k ≤ p + k)
-unfolding first_where
-where_bounds f p zero = (omega arith, omega arith)
-where_bounds f p (suc k) = go (f p) (where_bounds f (suc p) k)
-  where
-    go : (b : Bool) → (suc p ≤ first_where f (suc p) k) × (first_where f (suc p) k ≤ suc p + k) → (p ≤ cond b p (first_where f (suc p) k)) × (cond b p (first_where f (suc p) k) ≤ p + suc k)
-    go true h = (omega arith, omega arith)
-    go false h = let a = h.0 in let b = h.1 in (omega arith, omega arith)
-
 first_of_filter {ℓ} : {A : Type ℓ} (end : A) (item : ℕ → A) (f : ℕ → Bool) (p k n : ℕ) → n ≡ p + k
     → on_first end item (filter f (range p k)) ≡ cond (ltb (first_where f p k) n) (item (first_where f p k)) end
 unfolding on_first range first_where
@@ -132,14 +130,8 @@ first_of_filter end item f p (suc k) n e = go (f p) (first_of_filter end item f 
 
 -- what lies beyond the port held is the listing from there on
 pub all_beyond : (f : ℕ → Bool) (held p k : ℕ) → held ≤ p → filter (leb held) (filter f (range p k)) ≡ filter f (range p k)
-unfolding range
-all_beyond f held p zero l = refl
-all_beyond f held p (suc k) l = go (f p) (all_beyond f held (suc p) k (omega arith))
-  where
-    go : (b : Bool) → filter (leb held) (filter f (range (suc p) k)) ≡ filter f (range (suc p) k)
-        → filter (leb held) (cond b (p ∷ filter f (range (suc p) k)) (filter f (range (suc p) k))) ≡ cond b (p ∷ filter f (range (suc p) k)) (filter f (range (suc p) k))
-    go true h = rw (le-leb held p l) (ap (λ r. p ∷ r) h)
-    go false h = h
+all_beyond f held p k l =
+    filter_all (leb held) (filter f (range p k)) (λ x i. le-leb held x (let r = member_range x p k (member_filter f x (range p k) i).0 in omega arith))
 
 pub filter_beyond : (f : ℕ → Bool) (held p k : ℕ) → filter (leb held) (filter f (range p k)) ≡ filter f (range (max p held) (p + k - max p held))
 unfolding range

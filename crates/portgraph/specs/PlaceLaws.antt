@@ -175,14 +175,6 @@ module _ {g : PortGraph} {M : Model} (good : Good M) (holds : Holds g M) where
       go nowhere e = e
       go (to y) e = let k = link_to x y h e in absurd (omega arith)
 
-  -- a link's number is its far end's
-  pub linked_far : (x : InnerPlace) (s : ℕ) → Valid M.node x → at g.port_link (slot_of M.node x) ≡ suc s → (y : InnerPlace) × (M.join x ≡ to y) × (slot_of M.node y ≡ s)
-  linked_far x s h k = go (M.join x) refl
-    where
-      go : (f : Far) → M.join x ≡ f → (y : InnerPlace) × (M.join x ≡ to y) × (slot_of M.node y ≡ s)
-      go nowhere e = let z = link_none x h e in absurd (omega arith)
-      go (to y) e = let z = link_to x y h e in (y, e, omega arith)
-
   pub port_link_dead : (p : ℕ) → Vacant (Valid M.node) (slot_of M.node) p → port_link g p ≡ Err (record { 0 = port# p })
   port_link_dead p none = ap (link_of g p) (vacant_is_dead p none)
 
@@ -212,13 +204,6 @@ module _ {g : PortGraph} {M : Model} (good : Good M) (holds : Holds g M) where
       go (node_variants.Free f) q = absurd (zero_is_not_one (cc))
       go (node_variants.Node k) q = cc
 
-  pub no_meta_is_gone : (n : ℕ) → meta_at g n ≡ None → M.node n ≡ gone
-  no_meta_is_gone n e = sym (holds.nodes n) ∙ go (entry_at g n) e
-    where
-      go : (v : NodeEntry) → meta_of_entry v ≡ None → slots_of_entry v ≡ gone
-      go (node_variants.Free f) q = refl
-      go (node_variants.Node k) q = absurd (zero_is_not_one (cc))
-
   pub gone_has_no_meta : (n : ℕ) → M.node n ≡ gone → meta_at g n ≡ None
   gone_has_no_meta n e = go (entry_at g n) (holds.nodes n ∙ e)
     where
@@ -241,7 +226,7 @@ module _ {g : PortGraph} {M : Model} (good : Good M) (holds : Holds g M) where
       ∙ (index_in r.0 x.side x.pos k
       ∙ ap (λ (v : Slots). Some (port# (first_of v + (side_start v x.side + x.pos)))) (sym r.1))
 
-  -- an answered port is the port of that valid place
+  -- a claim that nothing below cites: an answered port is the port of that valid place
   pub place_of_index : (x : InnerPlace) (p : PortIndex) → port_index g x.node (offset_of_place x) ≡ Some p → Valid M.node x × (slot_of M.node x ≡ p.0)
   place_of_index x p e = go (meta_at g x.node) refl
     where

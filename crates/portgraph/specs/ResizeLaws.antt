@@ -267,7 +267,7 @@ module _ (g : PortGraph) (n incoming outgoing room : ℕ) where
       let d = length-append (move_up_events (first_slot m) first (kept_incoming m incoming)) (move_up_events (first_slot m + m.incoming) (first + incoming) (kept_outgoing m outgoing)) in
       length-append (drop_told g.port_link m incoming outgoing) _ ∙ omega arith)
 
-  -- at most one event for each port that the node had
+  -- a claim that nothing below cites: at most one event for each port that the node had
   pub events_few : (m : NodeMeta) → entry_at g n ≡ node_variants.Node m → events_of (set_num_ports g n incoming outgoing room).answer ≤ m.incoming + m.outgoing
   unfolding set_num_ports_under
   events_few m e =
@@ -317,7 +317,8 @@ module _ (g : PortGraph) (n incoming outgoing : ℕ) (moves : List ℕ) where
 abbrev pub Kept : ℕ → ℕ → ℕ → InnerPlace → Type 0
 Kept n incoming outgoing x = x.node ≡ n → x.pos < new_count incoming outgoing x.side
 
-kept_stays : (n incoming outgoing : ℕ) (x : InnerPlace) → Kept n incoming outgoing x → beyond n incoming outgoing x ≡ false
+-- such a place is not dropped
+pub kept_stays : (n incoming outgoing : ℕ) (x : InnerPlace) → Kept n incoming outgoing x → beyond n incoming outgoing x ≡ false
 kept_stays n incoming outgoing x h = go (eqb x.node n) refl
   where
     go : (b : Bool) → eqb x.node n ≡ b → cond b (leb (new_count incoming outgoing x.side) x.pos) false ≡ false

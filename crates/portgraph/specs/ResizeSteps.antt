@@ -5,7 +5,6 @@ use Rattle.std.proofs.Math.Path.{refl}
 use Rattle.std.proofs.Common.{append_assoc, pow-suc, arith}
 use Rattle.std.proofs.Math.Bool.{true, false}
 use Rattle.std.proofs.lemmas.Bool.{false≢true}
-use Rattle.std.proofs.Math.Nat.{pow-le-pow_right}
 use Rattle.std.proofs.Math.Dec.{leb}
 use Rattle.std.proofs.Math.ListN.{length-append}
 use Rattle.std.proofs.lemmas.List.Edits.{sets}
@@ -17,6 +16,7 @@ use Rattle.portgraph.specs.Model.{Wf}
 use Rattle.portgraph.specs.SlotSteps.{new_block_fits}
 use Rattle.portgraph.specs.Calls.{find_block}
 use Rattle.portgraph.specs.Resize.{refuse, plan_of, dropped, plan_of_under}
+use Rattle.std.proofs.Math.Pow.{pow_mono}
 use Rattle.port_tables.specs.ResizeLinks.{doubled, round_up, fits_inside, drop_incoming, drop_told, kept_incoming, kept_outgoing, first_slot}
 use Rattle.port_tables.specs.declared.node_entry.NodeMeta.{NodeMeta}
 use Rattle.port_tables.specs.declared.node_entry.FreeNodeEntry.{FreeNodeEntry}
@@ -24,9 +24,6 @@ use Rattle.port_tables.specs.declared.node_entry.NodeEntry.TheVariants as node_v
 use Rattle.portgraph.specs.declared.portgraph.PortGraph.{PortGraph}
 use Rattle.port_tables.specs.ResizeLinkSteps.{length_drop_events, sets_append}
 use Rattle.portgraph.specs.declared.resize.SetError.TheVariants as set_error
-
-powers_rise : (i j : ℕ) → i ≤ j → 2 ^ i ≤ 2 ^ j
-powers_rise i j h = pow-le-pow_right (omega arith) h
 
 doubled_power : (t a n : ℕ) → (k : ℕ) × (a ≤ k) × (k ≤ a + t) × (doubled t (2 ^ a) n ≡ 2 ^ k)
 unfolding doubled
@@ -52,15 +49,15 @@ past_power a n j m h = go (leb (suc a) j) refl
   where
     go : (b : Bool) → leb (suc a) j ≡ b → suc a ≤ j
     go true e = leb-true (suc a) j e
-    go false e = let i = powers_rise j a (omega (arith, leb-false (suc a) j e)) in absurd (omega arith)
+    go false e = let i = pow_mono {i = j} {j = a} (omega (arith, leb-false (suc a) j e)) in absurd (omega arith)
 
 doubled_least : (t a n j : ℕ) → a ≤ j → n ≤ 2 ^ j → doubled t (2 ^ a) n ≤ 2 ^ j
 unfolding doubled
-doubled_least zero a n j l h = powers_rise a j l
+doubled_least zero a n j l h = pow_mono l
 doubled_least (suc t) a n j l h = go (leb n (2 ^ a)) refl (λ i. doubled_least t (suc a) n j i h)
   where
     go : (b : Bool) → leb n (2 ^ a) ≡ b → (suc a ≤ j → doubled t (2 ^ suc a) n ≤ 2 ^ j) → cond b (2 ^ a) (doubled t (2 ^ a * 2) n) ≤ 2 ^ j
-    go true e r = powers_rise a j l
+    go true e r = pow_mono l
     go false e r = rw (← pow-suc 2 a) (r (past_power a n j (leb-false n (2 ^ a) e) h))
 
 pub round_up_is_a_power_of_two : (n : ℕ) → (k : ℕ) × (round_up n ≡ 2 ^ k)
@@ -79,7 +76,7 @@ round_up_is_least n j h = doubled_least n 0 n j (omega arith) h
 pub round_up_positive : (n : ℕ) → 0 < round_up n
 round_up_positive n =
     let r = round_up_is_a_power_of_two n in
-    let i = powers_rise 0 r.0 (omega arith) in
+    let i = pow_mono {i = 0} {j = r.0} (omega arith) in
     let e = r.1 in
     omega arith
 
@@ -96,7 +93,7 @@ round_up_beyond n h =
     let r = round_up_is_a_power_of_two n in
     let e = r.1 in
     let s = round_up_reaches n in
-    let i = powers_rise (suc most_ports_are_a_power.0) r.0 (past_power most_ports_are_a_power.0 n r.0 (omega arith) (omega arith)) in
+    let i = pow_mono (past_power most_ports_are_a_power.0 n r.0 (omega arith) (omega arith)) in
     let d = pow-suc 2 most_ports_are_a_power.0 in
     omega arith
 

@@ -5,15 +5,14 @@ use Rattle.std.proofs.Math.Path.{refl}
 use Rattle.std.proofs.Common.{sym, ◌∙◌, arith, length-set, get_or-set_same, get_or-set_other}
 use Rattle.std.proofs.Math.Bool.{true, false, cond}
 use Rattle.std.proofs.Math.Dec.{ltb}
-use Rattle.std.proofs.Math.ListN.{get_or-eq_default}
 use borrow.Author.Tests.{ltb-true, ltb-false, eqb-false, lt-ltb, le-leb, ne_eqb}
 use Rattle.port_tables.specs.Limits.{port_slots}
 use Rattle.port_tables.specs.Entries.{owner_number}
-use Rattle.port_tables.specs.Tables.{at, put, fill, fill_range, own_block, link_both, cut_far, cut, cut_range, relink, move_port, move_up, move_down, shift, transfer, chain_block}
+use Rattle.port_tables.specs.Tables.{at, put, fill, fill_range, own_block, link_both, cut_far, cut, cut_range, relink, move_port, chain_block}
 use Rattle.portgraph.specs.Model.{owner_in_block}
 use Rattle.port_tables.specs.declared.direction.Direction.TheVariants.{Incoming, Outgoing}
 use Rattle.port_tables.specs.declared.node_entry.NodeMeta.{NodeMeta}
-use Rattle.port_tables.specs.TableSteps.{length_fill, at_inside, at_outside, get_d_fill_in, get_d_fill_out}
+use Rattle.port_tables.specs.TableSteps.{length_fill, get_d_fill_in, get_d_fill_out}
 
 -- Lengths.
 
@@ -53,42 +52,11 @@ pub length_move_port : (t : List ℕ) (old new : ℕ) → length (move_port t ol
 unfolding move_port relink
 length_move_port t old new = length_cond (eqb (at t old) 0) t _ _ (simp length_put) (simp length_put)
 
-pub length_move_up : (t : List ℕ) (old new n : ℕ) → length (move_up t old new n) ≡ length t
-unfolding move_up
-length_move_up t old new zero = refl
-length_move_up t old new (suc n) = length_move_up (move_port t old new) (suc old) (suc new) n ∙ length_move_port t old new
-
-pub length_move_down : (t : List ℕ) (old new n : ℕ) → length (move_down t old new n) ≡ length t
-unfolding move_down
-length_move_down t old new zero = refl
-length_move_down t old new (suc n) =
-    length_move_down (move_port t (old + n) (new + n)) old new n ∙ length_move_port t (old + n) (new + n)
-
-pub length_shift : (t : List ℕ) (b : Bool) (old new n : ℕ) → length (shift t b old new n) ≡ length t
-unfolding shift
-length_shift t b old new n = length_cond b t _ _ (length_move_up t old new n) (length_move_down t old new n)
-
-pub length_transfer : (t : List ℕ) (old new n : ℕ) → length (transfer t old new n) ≡ length t
-unfolding transfer
-length_transfer t old new zero = refl
-length_transfer t old new (suc n) =
-    length_transfer (put (move_port t old new) old 0) (suc old) (suc new) n
-    ∙ (length_put (move_port t old new) old 0 ∙ length_move_port t old new)
-
 pub length_chain_block : (t : List ℕ) (first size head : ℕ) → length (chain_block t first size head) ≡ length t
 unfolding chain_block
 length_chain_block t first size head = length_cond (eqb size 0) t t _ refl (length_put t first head)
 
 -- One slot.
-
-pub at_is_get_d : (t : List ℕ) → length t ≡ port_slots → (s : ℕ) → at t s ≡ get_or t s 0
-at_is_get_d t long s = go (ltb s port_slots) refl
-  where
-    go : (b : Bool) → ltb s port_slots ≡ b → at t s ≡ get_or t s 0
-    go true e = sym (at_inside t s (ltb-true s port_slots e))
-    go false e =
-        let h : port_slots ≤ s = ltb-false s port_slots e in
-        sym (get_or-eq_default t 0 (omega arith) ∙ at_outside t s h)
 
 pub at_put_same : (t : List ℕ) (s v : ℕ) → length t ≡ port_slots → s < port_slots → at (put t s v) s ≡ v
 unfolding at put
@@ -111,33 +79,15 @@ unfolding at fill_range
 at_fill_in t i n s v long fits h k =
     rw (lt-ltb s port_slots (omega arith), le-leb (i + n) port_slots fits) (get_d_fill_in t i n s v 0 (omega arith) h k)
 
--- a range leaves a slot alone where filling the list does
-at_fill_kept : (t : List ℕ) (i n s v : ℕ) → get_or (fill t i n v) s 0 ≡ get_or t s 0 → at (fill_range t i n v) s ≡ at t s
+pub at_fill_outside : (t : List ℕ) (i n s v : ℕ) → (i ≤ s → s < i + n → ⊥) → at (fill_range t i n v) s ≡ at t s
 unfolding at fill_range
-at_fill_kept t i n s v e = go (leb (i + n) port_slots) (ltb s port_slots)
+at_fill_outside t i n s v out = go (leb (i + n) port_slots) (ltb s port_slots)
   where
     go : (b c : Bool) → cond c (get_or (cond b (fill t i n v) t) s 0) 0 ≡ cond c (get_or t s 0) 0
-    go true true = e
+    go true true = get_d_fill_out t i n s v 0 out
     go true false = refl
     go false true = refl
     go false false = refl
-
-pub at_fill_before : (t : List ℕ) (i n s v : ℕ) → s < i → at (fill_range t i n v) s ≡ at t s
-at_fill_before t i n s v h = at_fill_kept t i n s v (get_d_fill_out t i n s v 0 (λ a b. omega arith))
-
-pub at_fill_after : (t : List ℕ) (i n s v : ℕ) → i + n ≤ s → at (fill_range t i n v) s ≡ at t s
-at_fill_after t i n s v h = at_fill_kept t i n s v (get_d_fill_out t i n s v 0 (λ a b. omega arith))
-
-pub at_fill_outside : (t : List ℕ) (i n s v : ℕ) → (i ≤ s → s < i + n → ⊥) → at (fill_range t i n v) s ≡ at t s
-at_fill_outside t i n s v out = go (ltb s i) refl
-  where
-    go : (b : Bool) → ltb s i ≡ b → at (fill_range t i n v) s ≡ at t s
-    go true e = at_fill_before t i n s v (ltb-true s i e)
-    go false e = inner (ltb s (i + n)) refl
-      where
-        inner : (c : Bool) → ltb s (i + n) ≡ c → at (fill_range t i n v) s ≡ at t s
-        inner true f = absurd (out (ltb-false s i e) (ltb-true s (i + n) f))
-        inner false f = at_fill_after t i n s v (ltb-false s (i + n) f)
 
 -- A free block's first slot.
 
@@ -156,16 +106,6 @@ at_chain_other t first size head s out = go (eqb size 0) refl
 
 -- The owners of a block.
 module _ (t : List ℕ) (n : ℕ) (m : NodeMeta) where
-  pub at_block_before : (s : ℕ) → s < m.first_port.0 → at (own_block t n m) s ≡ at t s
-  unfolding own_block
-  at_block_before s h =
-      at_fill_before _ _ _ s _ (omega arith) ∙ (at_fill_before _ _ _ s _ (omega arith) ∙ at_fill_before _ _ _ s _ h)
-
-  pub at_block_after : (s : ℕ) → m.incoming + m.outgoing ≤ m.capacity → m.first_port.0 + m.capacity ≤ s → at (own_block t n m) s ≡ at t s
-  unfolding own_block
-  at_block_after s fits h =
-      at_fill_after _ _ _ s _ (omega arith) ∙ (at_fill_after _ _ _ s _ (omega arith) ∙ at_fill_after _ _ _ s _ (omega arith))
-
   pub at_block_in : (s : ℕ) → length t ≡ port_slots → m.first_port.0 + m.capacity ≤ port_slots → m.incoming + m.outgoing ≤ m.capacity
       → m.first_port.0 ≤ s → s < m.first_port.0 + m.capacity → at (own_block t n m) s ≡ owner_in_block n m s
   unfolding own_block
@@ -175,11 +115,11 @@ module _ (t : List ℕ) (n : ℕ) (m : NodeMeta) where
           → at (own_block t n m) s ≡ cond b (owner_number n Incoming) (cond c (owner_number n Outgoing) 0)
       go true c e f =
           let h : s < m.first_port.0 + m.incoming = ltb-true _ _ e in
-          at_fill_before _ _ _ s _ (omega arith) ∙ (at_fill_before _ _ _ s _ h ∙ at_fill_in t _ _ s _ long (omega arith) low h)
+          at_fill_outside _ _ _ s _ (λ a b. omega arith) ∙ (at_fill_outside _ _ _ s _ (λ a b. omega arith) ∙ at_fill_in t _ _ s _ long (omega arith) low h)
       go false true e f =
           let h : m.first_port.0 + m.incoming ≤ s = ltb-false _ _ e in
           let k : s < m.first_port.0 + (m.incoming + m.outgoing) = ltb-true _ _ f in
-          at_fill_before _ _ _ s _ k ∙ at_fill_in _ _ _ s _ (length_fill_range t _ _ _ ∙ long) (omega arith) h (omega arith)
+          at_fill_outside _ _ _ s _ (λ a b. omega arith) ∙ at_fill_in _ _ _ s _ (length_fill_range t _ _ _ ∙ long) (omega arith) h (omega arith)
       go false false e f =
           let h : m.first_port.0 + m.incoming ≤ s = ltb-false _ _ e in
           let k : m.first_port.0 + (m.incoming + m.outgoing) ≤ s = ltb-false _ _ f in

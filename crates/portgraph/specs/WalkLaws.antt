@@ -1,15 +1,14 @@
 -- Laws of the walks: a walk from its start gives the whole listing, in order, each item once, and comes to its end.
 -- From any position that is still there it gives the rest of the listing; where that is gone it ends.
-use Rattle.std.specs.Prelude.{◌≡◌, refl, Bool, true, false, cond, List, [], ◌∷◌, ◌⊎◌, ℕ, zero, suc, ◌+◌, ◌-◌, ◌≤◌, ◌<◌, max, eqb, ltb, get_or, Option, Some, None}
-use Rattle.std.proofs.Common.{sym, ap, ◌∙◌, inl, inr, arith, add-one, lt-ltb, le-ltb, ne_eqb, ltb-true, ltb-false, eqb-true}
-use Rattle.std.proofs.lemmas.Bool.{eqb-false}
+use Rattle.std.specs.Prelude.{◌≡◌, refl, Bool, true, false, cond, List, [], ◌∷◌, ◌⊎◌, ℕ, zero, suc, ◌+◌, ◌-◌, ◌≤◌, ◌<◌, max, ltb, get_or, Option, Some, None}
+use Rattle.std.proofs.Common.{sym, ap, ◌∙◌, inl, inr, arith, lt-ltb, le-ltb, ne_eqb, ltb-true, ltb-false}
 use Rattle.port_tables.specs.Limits.{node_slots, port_slots, node_ports}
 use Rattle.port_tables.specs.Lists.{range, Member, Once}
+use Rattle.std.specs.List.{filter}
 use Rattle.port_tables.specs.Entries.{fresh_slot, is_node, port_entry, owner_number, node#, port#, meta_of_entry, ports_from, ports_to}
-use Rattle.portgraph.specs.Model.{Model, Good, Holds, Wf, live, held as held_by, owner_in_block, owner_of_slots, owner_of_who}
+use Rattle.portgraph.specs.Model.{Model, Good, Holds, live, held as held_by, owner_in_block, owner_of_slots, owner_of_who}
 use Rattle.portgraph.specs.Lookups.{entry_at, meta_at, is_some, contains_node, port_at, is_port, contains_port, start_of, offset_in, offset_of, port_offset}
 use Rattle.port_tables.specs.ResizeLinks.{BlockFits}
-use Rattle.portgraph.specs.LookupSteps.{found_block_fits}
 use Rattle.portgraph.specs.Joins.{either_way}
 use Rattle.portgraph.specs.PlaceLaws.{entry_of_owner, meta_of_node}
 use Rattle.portgraph.specs.Walks.{node_from, node_held, step_nodes, port_held, ports_item, ports_beyond, step_ports, offset_found, offset_of_step, step_offsets, ports_of_node, Walked, whole, unfinished, more}
@@ -29,7 +28,7 @@ use Rattle.portgraph.specs.declared.iter.NodePortOffsets.{NodePortOffsets}
 use Rattle.port_tables.specs.declared.index.NodeIndex.{NodeIndex}
 use Rattle.port_tables.specs.declared.index.PortIndex.{PortIndex}
 use Rattle.portgraph.specs.declared.iter.Nodes.{Nodes}
-use Rattle.port_tables.specs.Listing.{range_none}
+use Rattle.port_tables.specs.Listing.{member_filter, filter_member, range_member, range_rises, rising_filter, rising_once, range_none, range_first}
 
 -- Nodes.
 
@@ -178,70 +177,27 @@ walk_gives_rest g (suc fuel) held l h = go (walk_gives_rest g fuel) (next_or_non
 pub walk_gives_all_nodes : (g : PortGraph) → walk_nodes g (node_slots + 1) 0 ≡ whole (nodes_of g)
 walk_gives_all_nodes g = walk_gives_rest g (node_slots + 1) 0 (omega arith) refl
 
--- A list of ascending numbers, all at least n.
-abbrev pub Ascending : ℕ → List ℕ → Type 0
-Ascending n [] = Unit {0}
-Ascending n (x ∷ l) = (n ≤ x) × Ascending (suc x) l
+-- the listing is the node slots that have a node, so that it ascends and has exactly the live ones
+abbrev has_node : List NodeSlot → ℕ → Bool
+has_node nodes n = is_node (get_or nodes n fresh_slot).entry
 
-ascending_from_less : (n : ℕ) (l : List ℕ) → Ascending (suc n) l → Ascending n l
-ascending_from_less n [] a = a
-ascending_from_less n (x ∷ l) a = ((let b : suc n ≤ x = a.0 in omega arith), a.1)
-
-pub nodes_ascend : (nodes : List NodeSlot) (n k : ℕ) → Ascending n (nodes_from nodes n k)
-unfolding nodes_from
-nodes_ascend nodes n zero = tt
-nodes_ascend nodes n (suc k) = go (is_node (get_or nodes n fresh_slot).entry) (nodes_ascend nodes (suc n) k)
-  where
-    go : (b : Bool) → Ascending (suc n) (nodes_from nodes (suc n) k) → Ascending n (cond b (n ∷ nodes_from nodes (suc n) k) (nodes_from nodes (suc n) k))
-    go true a = (omega arith, a)
-    go false a = ascending_from_less n (nodes_from nodes (suc n) k) a
-
-ascending_in : (n x : ℕ) (l : List ℕ) → Ascending n l → Member x l → n ≤ x
-ascending_in n x (y ∷ l) a (inl e) = let b : n ≤ y = a.0 in omega arith
-ascending_in n x (y ∷ l) a (inr i) = let b : n ≤ y = a.0 in let c = ascending_in (suc y) x l a.1 i in omega arith
-ascending_in n x [] a x4 = elim x4 [ ]
-
--- what ascends has no item twice
-pub ascending_once : (n : ℕ) (l : List ℕ) → Ascending n l → Once l
-ascending_once n [] a = tt
-ascending_once n (x ∷ l) a = ((λ i. let c = ascending_in (suc x) x l a.1 i in omega arith), ascending_once (suc x) l a.1)
+nodes_filtered : (nodes : List NodeSlot) (n k : ℕ) → nodes_from nodes n k ≡ filter (has_node nodes) (range n k)
+unfolding nodes_from range
+nodes_filtered nodes n zero = refl
+nodes_filtered nodes n (suc k) = rw (nodes_filtered nodes (suc n) k) refl
 
 pub no_node_twice : (g : PortGraph) → Once (nodes_of g)
-no_node_twice g = ascending_once 0 (nodes_of g) (nodes_ascend g.node_meta 0 node_slots)
-
--- The listing has exactly the live nodes.
-
-listed_live : (nodes : List NodeSlot) (n k m : ℕ) → Member m (nodes_from nodes n k) → is_node (get_or nodes m fresh_slot).entry ≡ true
-unfolding nodes_from
-listed_live nodes n zero m i = absurd i
-listed_live nodes n (suc k) m i = go (is_node (get_or nodes n fresh_slot).entry) refl (listed_live nodes (suc n) k m) i
-  where
-    go : (b : Bool) → is_node (get_or nodes n fresh_slot).entry ≡ b → (Member m (nodes_from nodes (suc n) k) → is_node (get_or nodes m fresh_slot).entry ≡ true)
-        → Member m (cond b (n ∷ nodes_from nodes (suc n) k) (nodes_from nodes (suc n) k)) → is_node (get_or nodes m fresh_slot).entry ≡ true
-    go true e rest (inl p) = ap (λ x. is_node (get_or nodes x fresh_slot).entry) p ∙ e
-    go true e rest (inr j) = rest j
-    go false e rest j = rest j
-
-live_listed : (nodes : List NodeSlot) (n k m : ℕ) → n ≤ m → m < n + k → is_node (get_or nodes m fresh_slot).entry ≡ true → Member m (nodes_from nodes n k)
-unfolding nodes_from
-live_listed nodes n zero m a b h = absurd (omega arith)
-live_listed nodes n (suc k) m a b h = go (is_node (get_or nodes n fresh_slot).entry) refl (eqb m n) refl (λ l. live_listed nodes (suc n) k m l (omega arith) h)
-  where
-    go : (b : Bool) → is_node (get_or nodes n fresh_slot).entry ≡ b → (same : Bool) → eqb m n ≡ same → (suc n ≤ m → Member m (nodes_from nodes (suc n) k))
-        → Member m (cond b (n ∷ nodes_from nodes (suc n) k) (nodes_from nodes (suc n) k))
-    go true e true s rest = inl (eqb-true _ _ s)
-    go true e false s rest = let d : m ≡ n → ⊥ = eqb-false _ _ s in inr (rest (omega arith))
-    go false e true s rest =
-        let p : is_node (get_or nodes m fresh_slot).entry ≡ false = ap (λ x. is_node (get_or nodes x fresh_slot).entry) (eqb-true _ _ s) ∙ e in
-        let z : ◌≡◌ {A = ℕ} 0 1 = cc in
-        absurd (omega arith)
-    go false e false s rest = let d : m ≡ n → ⊥ = eqb-false _ _ s in rest (omega arith)
+no_node_twice g =
+    rw (nodes_filtered g.node_meta 0 node_slots)
+    (rising_once ◌<◌ (λ x l. omega arith) (filter (has_node g.node_meta) (range 0 node_slots)) (rising_filter ◌<◌ (has_node g.node_meta) (range 0 node_slots) (range_rises 0 node_slots)))
 
 pub listed_is_live : (g : PortGraph) (n : ℕ) → Member n (nodes_of g) → contains_node g n ≡ true
-listed_is_live g n i = some_is_node (entry_at g n) ∙ listed_live g.node_meta 0 node_slots n i
+listed_is_live g n i = some_is_node (entry_at g n) ∙ (member_filter (has_node g.node_meta) n (range 0 node_slots) (rw (nodes_filtered g.node_meta 0 node_slots) at i)).1
 
 pub live_is_listed : (g : PortGraph) (n : ℕ) → n < node_slots → contains_node g n ≡ true → Member n (nodes_of g)
-live_is_listed g n l h = live_listed g.node_meta 0 node_slots n (omega arith) (omega arith) (sym (some_is_node (entry_at g n)) ∙ h)
+live_is_listed g n l h =
+    rw (nodes_filtered g.node_meta 0 node_slots)
+    (filter_member (has_node g.node_meta) n (range 0 node_slots) (range_member n 0 node_slots (omega arith) (omega arith)) (sym (some_is_node (entry_at g n)) ∙ h))
 
 -- Ports of a node.
 
@@ -259,10 +215,6 @@ walk_ports g (suc fuel) c = after_port (walk_ports g fuel) (step_ports g c)
 walk_ports_on : (g : PortGraph) (fuel : ℕ) (c : NodePorts) → walk_ports g (suc fuel) c ≡ after_port (walk_ports g fuel) (step_ports g c)
 unfolding walk_ports
 walk_ports_on g fuel c = refl
-
-numbers_on : (p k j : ℕ) → k ≡ suc j → range p k ≡ p ∷ range (suc p) j
-unfolding range
-numbers_on p k j e = rw e
 
 -- a step of a walk over a live node's ports, from a position that is still there
 pub step_of_node : (g : PortGraph) (c : NodePorts) (m : NodeMeta) → meta_at g c.node.0 ≡ Some m → port_held g c.held ≡ true → step_ports g c ≡ ports_item c.node.0 c.sides (max (ports_from m c.sides) c.held) (ports_to m c.sides)
@@ -298,14 +250,14 @@ module _ (g : PortGraph) (n : ℕ) (sides : Sides) (m : NodeMeta) (node : meta_a
           let ih : walk_ports g fuel (ports_cursor n sides (suc p)) ≡ whole (range (suc p) (ports_to m sides - suc p)) =
           rest (omega arith) (omega arith) (held_is_port g p ∙ alive p (omega arith) a) in
           to_step (Some (port# p, ports_cursor n sides (suc p))) (item_there n sides p (ports_to m sides) a) ∙
-          (ap (more p) ih ∙ ap whole (sym (numbers_on p (ports_to m sides - p) (ports_to m sides - suc p) (omega arith))))
+          (ap (more p) ih ∙ ap whole (sym (range_first p (ports_to m sides - p) (ports_to m sides - suc p) (omega arith))))
       go false t rest =
           let a : ports_to m sides ≤ p = ltb-false _ _ t in
           to_step None (item_beyond n sides p (ports_to m sides) a) ∙
           ap whole (sym (range_none p (ports_to m sides - p) (omega arith)))
 
 -- the ports on these sides lie within the node's ports
-ports_within : (m : NodeMeta) (sides : Sides) (p : ℕ) → ports_from m sides ≤ p → p < ports_to m sides → (m.first_port.0 ≤ p) × (p < m.first_port.0 + (m.incoming + m.outgoing))
+pub ports_within : (m : NodeMeta) (sides : Sides) (p : ℕ) → ports_from m sides ≤ p → p < ports_to m sides → (m.first_port.0 ≤ p) × (p < m.first_port.0 + (m.incoming + m.outgoing))
 ports_within m (One Incoming) p a b = (omega arith, omega arith)
 ports_within m (One Outgoing) p a b = (omega arith, omega arith)
 ports_within m Both p a b = (omega arith, omega arith)
@@ -424,13 +376,8 @@ module _ (g : PortGraph) (M : Model) (good : Good M) (holds : Holds g M) (n : �
   pub walk_gives_all_offsets : (sides : Sides) → walk_offsets g (node_ports + 1) (record { ports = ports_cursor n sides 0 }) ≡ whole (offsets_at m (ports_of_node m sides))
   walk_gives_all_offsets sides = offsets_walk_with_ports sides (node_ports + 1) 0 ∙ ap (each_offset m) (walk_gives_all_ports sides)
 
-pub numbers_ascend : (p k : ℕ) → Ascending p (range p k)
-unfolding range
-numbers_ascend p zero = tt
-numbers_ascend p (suc k) = (omega arith, numbers_ascend (suc p) k)
-
 pub no_port_twice : (m : NodeMeta) (sides : Sides) → Once (ports_of_node m sides)
-no_port_twice m sides = ascending_once (ports_from m sides) (ports_of_node m sides) (numbers_ascend (ports_from m sides) (ports_to m sides - ports_from m sides))
+no_port_twice m sides = rising_once ◌<◌ (λ x l. omega arith) (ports_of_node m sides) (range_rises (ports_from m sides) (ports_to m sides - ports_from m sides))
 
 -- A cursor whose node or port is gone ends the walk.
 
@@ -447,41 +394,8 @@ gone_node_ends_its_ports g c e =
 
 -- What the code of a step finds.
 
--- a turn of the search for the next node
-pub search_turn : (nodes : List NodeSlot) (n : ℕ) → n < node_slots → is_node (get_or nodes n fresh_slot).entry ≡ false → node_from nodes (n + 1) (node_slots - (n + 1)) ≡ node_from nodes n (node_slots - n)
-search_turn nodes n l e = go (node_slots - n) (node_slots - (n + 1)) (n + 1) (omega arith) (omega arith)
-  where
-    go : (k j i : ℕ) → k ≡ suc j → i ≡ suc n → node_from nodes i j ≡ node_from nodes n k
-    go k j i p q = rw (p, q) (sym (node_not_here nodes n j e))
-
-module _ (g : PortGraph) (held n : ℕ) (h : node_held g held ≡ true)
-    (rest : node_from g.node_meta n (node_slots - n) ≡ node_from g.node_meta held (node_slots - held)) where
-  pub search_found : n < node_slots → is_node (entry_at g n) ≡ true → Some (node# n, record { held = n + 1 }) ≡ step_nodes g held
-  search_found l e = sym (step_where_held g held h ∙ (sym rest ∙ go (node_slots - n) (node_slots - suc n) (n + 1) (omega arith) (omega arith)))
-    where
-      go : (k j i : ℕ) → k ≡ suc j → i ≡ suc n → node_from g.node_meta n k ≡ Some (node# n, record { held = i })
-      go k j i p q = rw (p, q) (node_here g.node_meta n j e)
-
-  pub search_done : node_slots ≤ n → None ≡ step_nodes g held
-  search_done l = sym (step_where_held g held h ∙ (sym rest ∙ go (node_slots - n) (omega arith)))
-    where
-      go : (k : ℕ) → k ≡ 0 → node_from g.node_meta n k ≡ None
-      go k p = rw p (no_node_left g.node_meta n)
-
--- a step over ports from the numbers that the code computes: first and last slot, and the place where it goes on
-pub step_at : (g : PortGraph) (c : NodePorts) (m : NodeMeta) (first place p end : ℕ) → meta_at g c.node.0 ≡ Some m → port_held g c.held ≡ true → first ≡ ports_from m c.sides → place ≡ c.held → p ≡ max first place → end ≡ ports_to m c.sides → step_ports g c ≡ ports_item c.node.0 c.sides p end
-step_at g c m first place p end e h a b d f =
-    let q : max (ports_from m c.sides) c.held ≡ p = cc in
-    step_of_node g c m e h ∙ (ap (λ x. ports_item c.node.0 c.sides x (ports_to m c.sides)) q ∙ ap (ports_item c.node.0 c.sides p) (sym f))
-
-pub item_given : (n : ℕ) (sides : Sides) (p end : ℕ) → p < end → Some (port# p, ports_cursor n sides (p + 1)) ≡ ports_item n sides p end
-item_given n sides p end l = ap (λ k. Some (port# p, ports_cursor n sides k)) (add-one p) ∙ sym (item_there n sides p end l)
-
--- the ports of a block lie within the tables, and so do those of a node
+-- the ports of a block lie within the tables
 pub ports_end_within : (m : NodeMeta) (sides : Sides) → BlockFits m → ports_to m sides ≤ port_slots
 ports_end_within m (One Incoming) fits = let a = fits.ends in let b = fits.ports in omega arith
 ports_end_within m (One Outgoing) fits = let a = fits.ends in let b = fits.ports in omega arith
 ports_end_within m Both fits = let a = fits.ends in let b = fits.ports in omega arith
-
-pub ports_end_inside : (g : PortGraph) → Wf g → (n : ℕ) (m : NodeMeta) (sides : Sides) → meta_at g n ≡ Some m → ports_to m sides ≤ port_slots
-ports_end_inside g w n m sides e = ports_end_within m sides (found_block_fits g w n m (sym e))

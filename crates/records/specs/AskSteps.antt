@@ -41,8 +41,8 @@ set_answered {m} {n = n} {i = i} {o = o} w e q f t g =
     let z = ap (set_counts m n i o) q in
     answered w e (t ∙ ap (λ (k : Result ℕ Refusal). five (set_numbers k)) f ∙ ap (λ (r : PortsSet). five (set_numbers r.answer)) z) (g ∙ ap (λ (r : PortsSet). r.graph) z)
 
-pub empty_wf : (release : Release) (m : MultiPortGraph) → m ≡ empty_graph release → MultiWf m
-empty_wf release m e = rw e (empty_kept release)
+pub empty_told : (release : Release) (m : MultiPortGraph) → m ≡ empty_graph release → (m ≡ empty_graph release) × MultiWf m
+empty_told release m e = (e, rw e (empty_kept release))
 
 pub set_wf : (m : MultiPortGraph) (n i o room : ℕ) (r : PortsSet) → MultiWf m → r ≡ set_counts m n i o room → MultiWf r.graph
 set_wf m n i o room r w e = rw e (step_kept m (set_call n i o room) w)

@@ -105,34 +105,31 @@ module _ {requests rest answers : List ℕ} {m : MultiPortGraph} {at : ℕ} (r :
   unfolding answers_from bytes_of
   run_ends h = ap (λ (l : List Request). sets answers at (bytes_of (answers_from m l))) (sym (requests_none rest h)) ∙ r.same
 
-  module _ (request next : List ℕ) (e : rest ≡ request ++ next) (n : length request ≡ 20) where
-    pub run_fits : at + 20 ≤ length answers
-    run_fits = let l = ap length e ∙ length-append request next in let c = r.counted in let o = r.long in omega arith
-
-    -- one turn: the first request that is left is answered, its words are laid, and the next turn has the graph that it leaves
-    pub run_turns : {answers' : List ℕ} {m' : MultiPortGraph} {here place : ℕ} {x : Asked} {words : List ℕ} → here ≡ at → place ≡ at + 20 → x ≡ asked (request_at request 0) → Answered m x words m'
-        → answers' ≡ sets answers here (bytes_of words) → Running requests next answers' m' place
-    unfolding answers_from
-    run_turns {answers'} {m'} {here} {place} {x} {words} h s q d laid_here =
-        let a : answers' ≡ sets answers at (bytes_of words) = rw h at laid_here in
-        let l = ap length e ∙ length-append request next in
-        let later = answers_from (after m x) (requests_of next) in
-        let whole : answers_from m (requests_of rest) ≡ words ++ later = rw (requests_on rest request next e n, d.told, q) refl in
-        let size : length (bytes_of words) ≡ 20 = rw d.told (bytes_long (five (numbers m x))) in
-        let there : at + length (bytes_of words) ≡ at + 20 = omega arith in
-        record {
-          counted = let c = r.counted in omega arith;
-          whole = let w = r.whole in omega arith;
-          long = rw a (length-sets answers at (bytes_of words)) ∙ r.long;
-          same =
-              rw (s, d.graph, a)
-              (ap (λ (k : ℕ). sets (sets answers at (bytes_of words)) k (bytes_of later)) (sym there)
-              ∙ sets_append answers at (bytes_of words) (bytes_of later)
-              ∙ ap (sets answers at) (sym (bytes_append words later))
-              ∙ ap (λ v. sets answers at (bytes_of v)) (sym whole))
-              ∙ r.same;
-          kept = d.kept;
-        }
+module _ {requests rest answers : List ℕ} {m : MultiPortGraph} {count : ℕ} (r : Running requests rest answers m (20 * count)) (request next : List ℕ) (e : rest ≡ request ++ next) (n : length request ≡ 20) where
+  -- one turn: the first request that is left is answered, its words are laid, and the next turn has the graph that it leaves
+  pub run_turns : {answers' : List ℕ} {m' : MultiPortGraph} {here there : ℕ} {x : Asked} {words : List ℕ} → here ≡ count → there ≡ count + 1 → x ≡ asked (request_at request 0) → Answered m x words m'
+      → answers' ≡ sets answers (20 * here) (bytes_of words) → Running requests next answers' m' (20 * there)
+  unfolding answers_from
+  run_turns {answers'} {m'} {here} {there} {x} {words} h s q d laid_here =
+      let at = 20 * count in
+      let a : answers' ≡ sets answers at (bytes_of words) = rw h at laid_here in
+      let l = ap length e ∙ length-append request next in
+      let later = answers_from (after m x) (requests_of next) in
+      let whole : answers_from m (requests_of rest) ≡ words ++ later = rw (requests_on rest request next e n, d.told, q) refl in
+      let size : length (bytes_of words) ≡ 20 = rw d.told (bytes_long (five (numbers m x))) in
+      let place : 20 * there ≡ 20 * count + length (bytes_of words) = omega arith in
+      record {
+        counted = let c = r.counted in omega arith;
+        whole = let w = r.whole in omega arith;
+        long = rw a (length-sets answers at (bytes_of words)) ∙ r.long;
+        same =
+            rw (place, d.graph, a)
+            (sets_append answers at (bytes_of words) (bytes_of later)
+            ∙ ap (sets answers at) (sym (bytes_append words later))
+            ∙ ap (λ v. sets answers at (bytes_of v)) (sym whole))
+            ∙ r.same;
+        kept = d.kept;
+      }
 
 -- The same loop on any graph, where no answer is laid: the graph that the rest leaves is that of the whole list.
 pub record Going (requests rest : List ℕ) (start graph : MultiPortGraph) : Type 0 where

@@ -26,6 +26,7 @@ pub struct Asked {
 }
 
 // The empty graph of a release.
+#[tactic(auto, using(crate::specs::AskSteps::empty_told))]
 pub fn empty(release: Release) -> MultiPortGraph
     ensures { (result ≡ empty_graph release) × MultiWf result }
 {

@@ -83,6 +83,7 @@ kept_of m es false wf = graph_kept m es wf
 pub sheet_kept : (m : MultiPortGraph) (es : List SheetEntry) → MultiWf m → MultiWf (link_sheet m es).graph
 sheet_kept m es wf = kept_of m es (too_many es) wf
 
+-- so does one whose places its caller holds by value
 pub held_kept : (m : MultiPortGraph) (places : List SheetEntry) (count : ℕ) → MultiWf m → MultiWf (link_held m places count).graph
 held_kept m places count wf = sheet_kept m (take (min count sheet_places) places) wf
 

@@ -1,5 +1,5 @@
 -- Steps that the proof of `link_sheet` cites: the loop over the lent entries, by number, does what the sheet says.
-use Rattle.std.specs.Prelude.{◌≡◌, refl, Bool, true, false, cond, List, [], ◌∷◌, ◌++◌, ℕ, zero, suc, ◌+◌, length, set, take, drop, Ok, Err}
+use Rattle.std.specs.Prelude.{◌≡◌, refl, Bool, false, cond, List, [], ◌∷◌, ◌++◌, ℕ, zero, suc, ◌+◌, length, set, Ok, Err}
 use Rattle.std.proofs.Common.{sym, ap, ◌∙◌, length-append}
 use Rattle.std.proofs.Math.Seq.{get_or-append_seam, set-append_seam, append_snoc}
 use Rattle.multiportgraph.specs.WellFormed.{MultiWf}
@@ -8,7 +8,6 @@ use Rattle.theorems.specs.Book.{link_call}
 use Rattle.theorems.proofs.CallLaws.{step_kept}
 use Rattle.sheets.specs.declared.sheet.SheetEntry.{SheetEntry}
 use Rattle.sheets.specs.declared.sheet.SheetLinked.{SheetLinked}
-use Rattle.sheets.specs.Held.{link_first}
 use Rattle.sheets.specs.Sheets.{no_entry, entry_at, entry_linked, graph_after, answered, too_many, link_sheet, sheet_after, sheet_numbers, too_long}
 
 -- Graph and entries, where k entries are left to do and i are done.
@@ -62,11 +61,6 @@ entry_kept m e wf = step_kept m (link_call e.port_a.0 e.port_b.0) wf
 abbrev pub Done? : MultiPortGraph → List SheetEntry → SheetLinked → List SheetEntry → Type 0
 Done? m es r ys = (r ≡ link_sheet m es) × (ys ≡ sheet_after m es) × (sheet_numbers r.answer ≡ sheet_numbers (link_sheet m es).answer)
 
-pub refused_whole : (m : MultiPortGraph) (es : List SheetEntry) → too_many es ≡ true → Done? m es (record { graph = m; answer = Err too_long }) es
-refused_whole m es h =
-    let e : record { graph = m; answer = Err too_long } ≡ link_sheet m es = sym (ap {B = SheetLinked} (λ (b : Bool). cond b (record { graph = m; answer = Err too_long }) (record { graph = graph_after m es; answer = Ok tt })) h) in
-    (e, sym (ap {B = List SheetEntry} (λ (b : Bool). cond b es (answered m es)) h), ap {B = List ℕ} (λ (r : SheetLinked). sheet_numbers r.answer) e)
-
 pub done_whole : (m : MultiPortGraph) (es : List SheetEntry) → too_many es ≡ false → (m₁ : MultiPortGraph) (ys : List SheetEntry) → (m₁, ys) ≡ finish (length es) 0 m es →
     Done? m es (record { graph = m₁; answer = Ok tt }) ys
 done_whole m es h m₁ ys f =
@@ -75,8 +69,3 @@ done_whole m es h m₁ ys f =
     ap {B = SheetLinked} (λ (s : Sheet). record { graph = s.0; answer = Ok tt }) g
     ∙ sym (ap {B = SheetLinked} (λ (b : Bool). cond b (record { graph = m; answer = Err too_long }) (record { graph = graph_after m es; answer = Ok tt })) h) in
     (e, ap {B = List SheetEntry} (λ (s : Sheet). s.1) g ∙ sym (ap {B = List SheetEntry} (λ (b : Bool). cond b es (answered m es)) h), ap {B = List ℕ} (λ (r : SheetLinked). sheet_numbers r.answer) e)
-
--- what lending the first places leaves
-pub first_linked : (m : MultiPortGraph) (places : List SheetEntry) (n : ℕ) (r : SheetLinked) (ys : List SheetEntry) → Done? m (take n places) r ys →
-    record { graph = r.graph; answer = r.answer; places = ys ++ drop n places } ≡ link_first m places n
-first_linked m places n r ys d = λ i. record { graph = (d.0 i).graph; answer = (d.0 i).answer; places = d.1 i ++ drop n places }

@@ -1,10 +1,10 @@
 -- Adding, removing and resizing over the tables.
+use Rattle.std.proofs.lemmas.List.{length-map}
 use Rattle.std.specs.Prelude.{◌≡◌, refl, Bool, true, false, cond, List, ◌∷◌, map, ℕ, suc, ◌+◌, ◌≤◌, ◌<◌, length, Result, Ok, Err}
 use Rattle.std.proofs.Common.{sym, ap, ◌∙◌, subst, add-one, arith, le-leb, lt-ltb, le-ltb}
 use Rattle.std.specs.List.{filter}
 use Rattle.port_tables.specs.Limits.{port_slots, node_ports}
-use Rattle.port_tables.specs.Listing.{length_map}
-use Rattle.sketches.specs.Plan.{PlanBlock, Plan, has_block, is_there, ports_in_all}
+use Rattle.sketches.specs.Plan.{Plan, has_block, is_there, ports_in_all}
 use Rattle.sketches.specs.PlanCalls.{Sketched, leaves, add_block, remove_block, recount, set_counts}
 use Rattle.sketches.specs.PlanNumbers.{add_numbers, done_numbers}
 use Rattle.sketches.specs.PlanWf.{PlanWf}
@@ -19,11 +19,12 @@ use Rattle.sketches.specs.declared.tests.Test.TheVariants as test
 use Rattle.sketches.specs.declared.sketch.Reason.TheVariants.{UnknownBlock, UnknownPort, NoRoom}
 use Rattle.sketches.specs.declared.sketch.Reason.{Reason}
 use Rattle.sketches.specs.declared.sketch.SketchPort.{SketchPort}
-use Rattle.sketches.specs.CallParts.{no_room, judge_port}
+use Rattle.sketches.specs.CallParts.{no_room, judge_block, judge_port}
+use Rattle.sketches.specs.Held.{Held, held_in, plan_of, seen_as, back}
 
 -- the rows of the tables are as many as the plan's lists are long, so that they are within the tables
 pub length_blocks : (t : List Row) (n : ℕ) → length (blocks_in t n) ≡ n
-length_blocks t n = length_map block_of (rows_in t n) ∙ length_rows t n
+length_blocks t n = length-map (rows_in t n) block_of ∙ length_rows t n
 
 -- a call by its definition, where that is known
 pub leaves_as : {A : Type 0} {numbers : A → List ℕ} {called : Sketched A} {b s w : List Row} {h : Totals} {a : A} (K : Plan) (x : A) → called ≡ leaves K x → plan_in b s w h ≡ K → a ≡ x → SketchWf b s w h →
@@ -40,21 +41,18 @@ leaves_as {A} {numbers} {called} K x e p q wf =
 pub tables_wf : {b s w : List Row} {h : Totals} {K : Plan} → Table b → Table s → Table w → plan_in b s w h ≡ K → PlanWf K → SketchWf b s w h
 tables_wf x y z e wf = record { block_table = x; split_table = y; wire_table = z; plan = subst PlanWf (sym e) wf }
 
--- A block, or a port, that was found.
+-- A block, or a port, that was judged to be there, in the fields of a sketch.
 
-pub block_so : (l : List PlanBlock) (n : ℕ) → cond {A = Result (Unit {0}) Reason} (has_block l n) (Ok tt) (Err UnknownBlock) ≡ Ok tt → has_block l n ≡ true
-block_so l n = go (has_block l n)
-  where
-    go : (b : Bool) → cond {A = Result (Unit {0}) Reason} b (Ok tt) (Err UnknownBlock) ≡ Ok tt → b ≡ true
-    go true e = refl
-    go false e = absurd (let z : ◌≡◌ {A = ℕ} 0 1 = cc in omega arith)
+fine_so : (r : Reason) (b : Bool) → cond {A = Result (Unit {0}) Reason} b (Ok tt) (Err r) ≡ Ok tt → b ≡ true
+fine_so r true e = refl
+fine_so r false e = cc
 
-pub port_so : (K : Plan) (x : SketchPort) → judge_port K x ≡ Ok tt → is_there K x ≡ true
-port_so K x = go (is_there K x)
-  where
-    go : (b : Bool) → cond {A = Result (Unit {0}) Reason} b (Ok tt) (Err UnknownPort) ≡ Ok tt → b ≡ true
-    go true e = refl
-    go false e = absurd (let z : ◌≡◌ {A = ℕ} 0 1 = cc in omega arith)
+module _ {i k : Held} (v : i ≡ k) {j : Result (Unit {0}) Reason} where
+  pub block_known : (n : ℕ) → j ≡ judge_block (plan_of k) n → j ≡ Ok tt → has_block (plan_of i).blocks n ≡ true
+  block_known n e f = fine_so UnknownBlock (has_block (plan_of i).blocks n) (sym (back (λ (l : Plan). judge_block l n) v e) ∙ f)
+
+  pub port_known : (x : SketchPort) → j ≡ judge_port (plan_of k) x → j ≡ Ok tt → is_there (plan_of i) x ≡ true
+  port_known x e f = fine_so UnknownPort (is_there (plan_of i) x) (sym (back (λ (l : Plan). judge_port l x) v e) ∙ f)
 
 -- Adding.
 
@@ -72,25 +70,29 @@ add_accepted : (K : Plan) (i o : ℕ) → i + o ≤ node_ports → no_room K.add
 unfolding add_block
 add_accepted K i o h k = rw (le-leb (i + o) node_ports h, k)
 
-module _ (b s w : List Row) (h : Totals) (wf : SketchWf b s w h) (i o : ℕ) where
+module _ {b s w : List Row} {h : Totals} {k : Held} (v : held_in b s w h ≡ k) (wf : SketchWf b s w h) (i o : ℕ) where
   room_is : {n : ℕ} → n ≡ i + o → no_room h.adds (length (blocks_in b h.blocks)) (blocks_in b h.blocks) (i + o) ≡ no_room h.adds h.blocks (blocks_in b h.blocks) n
   room_is e = rw (length_blocks b h.blocks, ← e)
 
-  pub added : {n m : ℕ} {b' : List Row} → n ≡ i + o → n ≤ node_ports → no_room h.adds h.blocks (blocks_in b h.blocks) n ≡ false →
-      (rows_in b' m ≡ record { 0 = h.adds; 1 = i; 2 = o; 3 = 0; 4 = 0; 5 = 0 } ∷ rows_in b h.blocks) × Table b' →
-      Leaves add_numbers (add_block (plan_in b s w h) i o) b' s w (record { release = h.release; adds = h.adds + 1; blocks = m; splits = h.splits; wires = h.wires }) (Ok h.adds)
-  added {n} {m} {b'} e k r p =
-      leaves_as (new_block (plan_in b s w h) i o) (Ok h.adds) at_once plan refl
-      (tables_wf p.1 wf.split_table wf.wire_table plan
-      (subst (λ (c : Sketched (Result ℕ Reason)). PlanWf c.plan) at_once (add_wf (plan_in b s w h) i o wf.plan)))
-    where
-      at_once : add_block (plan_in b s w h) i o ≡ leaves (new_block (plan_in b s w h) i o) (Ok h.adds)
-      at_once = add_accepted (plan_in b s w h) i o (omega arith) (room_is e ∙ r)
+  module _ {x y : ℕ} (m : ℕ) (b' : List Row) {t : Bool} (f : x ≡ i) (g : y ≡ o) (small : x + y ≤ node_ports) (r : t ≡ no_room k.totals.adds k.totals.blocks (plan_of k).blocks (x + y)) (room : t ≡ false)
+      (p : rows_in b' m ≡ record { 0 = h.adds; 1 = i; 2 = o; 3 = 0; 4 = 0; 5 = 0 } ∷ rows_in b h.blocks) (table : Table b') where
+    at_once : add_block (plan_in b s w h) i o ≡ leaves (new_block (plan_in b s w h) i o) (Ok h.adds)
+    at_once =
+        let e : x + y ≡ i + o = omega arith in
+        let q : t ≡ no_room h.adds h.blocks (blocks_in b h.blocks) (x + y) = subst (λ (l : Held). t ≡ no_room l.totals.adds l.totals.blocks (plan_of l).blocks (x + y)) (sym v) r in
+        add_accepted (plan_in b s w h) i o (omega arith) (room_is e ∙ sym q ∙ room)
 
-      plan : plan_in b' s w (record { release = h.release; adds = h.adds + 1; blocks = m; splits = h.splits; wires = h.wires }) ≡ new_block (plan_in b s w h) i o
-      plan =
-          let x : blocks_in b' m ≡ record { name = h.adds; incoming = i; outgoing = o } ∷ blocks_in b h.blocks = ap (map block_of) p.0 in
-          rw (x, add-one h.adds)
+    grown : plan_in b' s w (record { release = h.release; adds = h.adds + 1; blocks = m; splits = h.splits; wires = h.wires }) ≡ new_block (plan_in b s w h) i o
+    grown =
+        let x : blocks_in b' m ≡ record { name = h.adds; incoming = i; outgoing = o } ∷ blocks_in b h.blocks = ap (map block_of) p in
+        rw (x, add-one h.adds)
+
+    pub added : Leaves add_numbers (add_block (plan_of k) i o) b' s w (record { release = h.release; adds = h.adds + 1; blocks = m; splits = h.splits; wires = h.wires }) (Ok h.adds)
+    added =
+        seen_as (λ (l : Plan). add_block l i o) v
+        (leaves_as (new_block (plan_in b s w h) i o) (Ok h.adds) at_once grown refl
+        (tables_wf table wf.split_table wf.wire_table grown
+        (subst (λ (c : Sketched (Result ℕ Reason)). PlanWf c.plan) at_once (add_wf (plan_in b s w h) i o wf.plan))))
 
 -- Removing.
 
@@ -120,23 +122,6 @@ module _ (b s w : List Row) (h : Totals) (wf : SketchWf b s w h) (n : ℕ) where
   pub removed_unknown : has_block (blocks_in b h.blocks) n ≡ false → Leaves done_numbers (remove_block (plan_in b s w h) n) b s w h (Err UnknownBlock)
   removed_unknown e = leaves_as (plan_in b s w h) (Err UnknownBlock) (remove_unknown (plan_in b s w h) n e) refl refl wf
 
-  pub removed : has_block (blocks_in b h.blocks) n ≡ true → (b' s' w' : List Row) (nb ns nw : ℕ) →
-      (rows_in b' nb ≡ filter (missed (test.Block n)) (rows_in b h.blocks)) × Table b' →
-      (rows_in s' ns ≡ filter (missed (test.Split (ask.OfBlock n))) (rows_in s h.splits)) × Table s' →
-      (rows_in w' nw ≡ filter (missed (test.Wire (ask.OfBlock n))) (rows_in w h.wires)) × Table w' →
-      {h' : Totals} → h' ≡ totals_counts h nb ns nw →
-      Leaves done_numbers (remove_block (plan_in b s w h) n) b' s' w' h' (Ok tt)
-  removed e b' s' w' nb ns nw p q r {h'} c =
-      leaves_as (block_gone (plan_in b s w h) n) (Ok tt) (remove_accepted (plan_in b s w h) n e) plan refl
-      (tables_wf p.1 q.1 r.1 plan (subst (λ (c : Sketched (Result (Unit {0}) Reason)). PlanWf c.plan) (remove_accepted (plan_in b s w h) n e) (remove_wf (plan_in b s w h) n wf.plan)))
-    where
-      plan : plan_in b' s' w' h' ≡ block_gone (plan_in b s w h) n
-      plan =
-          let x : blocks_in b' nb ≡ (block_gone (plan_in b s w h) n).blocks = ap (map block_of) p.0 ∙ blocks_left_lem n (rows_in b h.blocks) in
-          let y : splits_in s' ns ≡ (block_gone (plan_in b s w h) n).splits = ap (map split_of) q.0 ∙ splits_left (ask.OfBlock n) (rows_in s h.splits) in
-          let z : wires_in w' nw ≡ (block_gone (plan_in b s w h) n).wires = ap (map wire_of) r.0 ∙ wires_left (ask.OfBlock n) (rows_in w h.wires) in
-          ap (plan_in b' s' w') c ∙ (λ k. record { release = h.release; adds = h.adds; blocks = x k; splits = y k; wires = z k })
-
   module _ (i o : ℕ) where
     pub resized_unknown : {a c : ℕ} → a ≡ i → c ≡ o → a + c ≤ node_ports → has_block (blocks_in b h.blocks) n ≡ false → Leaves done_numbers (set_counts (plan_in b s w h) n i o) b s w h (Err UnknownBlock)
     resized_unknown p q e k = leaves_as (plan_in b s w h) (Err UnknownBlock) (resize_unknown (plan_in b s w h) n i o (omega arith) k) refl refl wf
@@ -145,22 +130,38 @@ module _ (b s w : List Row) (h : Totals) (wf : SketchWf b s w h) (n : ℕ) where
         Leaves done_numbers (set_counts (plan_in b s w h) n i o) b s w h (Err NoRoom)
     resized_no_room p q e k x l = leaves_as (plan_in b s w h) (Err NoRoom) (resize_no_room (plan_in b s w h) n i o (omega arith) k (omega arith)) refl refl wf
 
-    pub resized : {a c m : ℕ} → a ≡ i → c ≡ o → a + c ≤ node_ports → has_block (blocks_in b h.blocks) n ≡ true → m ≡ ports_in_all (map (recount n i o) (blocks_in b h.blocks)) → m ≤ port_slots →
-        (b' s' w' : List Row) (nb ns nw : ℕ) →
-        (blocks_in b' nb ≡ map (recount n i o) (blocks_in b h.blocks)) × Table b' →
-        (rows_in s' ns ≡ filter (missed (test.Split (ask.OfDropped n i o))) (rows_in s h.splits)) × Table s' →
-        (rows_in w' nw ≡ filter (missed (test.Wire (ask.OfDropped n i o))) (rows_in w h.wires)) × Table w' →
-        {h' : Totals} → h' ≡ totals_counts h nb ns nw →
-        Leaves done_numbers (set_counts (plan_in b s w h) n i o) b' s' w' h' (Ok tt)
-    resized u v e k m l b' s' w' nb ns nw p q r {h'} c =
-        leaves_as (block_resized (plan_in b s w h) n i o) (Ok tt) at_once plan refl
-        (tables_wf p.1 q.1 r.1 plan (subst (λ (c : Sketched (Result (Unit {0}) Reason)). PlanWf c.plan) at_once (resize_wf (plan_in b s w h) n i o wf.plan)))
-      where
-        at_once : set_counts (plan_in b s w h) n i o ≡ leaves (block_resized (plan_in b s w h) n i o) (Ok tt)
-        at_once = resize_accepted (plan_in b s w h) n i o (omega arith) k (omega arith)
+-- The calls that are accepted, on the fields of a sketch.
 
-        plan : plan_in b' s' w' h' ≡ block_resized (plan_in b s w h) n i o
-        plan =
-            let y : splits_in s' ns ≡ (block_resized (plan_in b s w h) n i o).splits = ap (map split_of) q.0 ∙ splits_left (ask.OfDropped n i o) (rows_in s h.splits) in
-            let z : wires_in w' nw ≡ (block_resized (plan_in b s w h) n i o).wires = ap (map wire_of) r.0 ∙ wires_left (ask.OfDropped n i o) (rows_in w h.wires) in
-            ap (plan_in b' s' w') c ∙ (λ k. record { release = h.release; adds = h.adds; blocks = p.0 k; splits = y k; wires = z k })
+module _ {b s w : List Row} {h : Totals} {k : Held} (v : held_in b s w h ≡ k) (wf : SketchWf b s w h) (n : ℕ) {j : Result (Unit {0}) Reason} (e : j ≡ judge_block (plan_of k) n) (f : j ≡ Ok tt) (b' s' w' : List Row) (nb ns nw : ℕ) {h' : Totals}
+    (c : h' ≡ totals_counts h nb ns nw) (tb : Table b') (ts : Table s') (tw : Table w') where
+  module _ (p : rows_in b' nb ≡ filter (missed (test.Block n)) (rows_in b h.blocks)) (q : rows_in s' ns ≡ filter (missed (test.Split (ask.OfBlock n))) (rows_in s h.splits))
+      (r : rows_in w' nw ≡ filter (missed (test.Wire (ask.OfBlock n))) (rows_in w h.wires)) where
+    without_block : plan_in b' s' w' h' ≡ block_gone (plan_in b s w h) n
+    without_block =
+        let x : blocks_in b' nb ≡ (block_gone (plan_in b s w h) n).blocks = ap (map block_of) p ∙ blocks_left_lem n (rows_in b h.blocks) in
+        let y : splits_in s' ns ≡ (block_gone (plan_in b s w h) n).splits = ap (map split_of) q ∙ splits_left (ask.OfBlock n) (rows_in s h.splits) in
+        let z : wires_in w' nw ≡ (block_gone (plan_in b s w h) n).wires = ap (map wire_of) r ∙ wires_left (ask.OfBlock n) (rows_in w h.wires) in
+        ap (plan_in b' s' w') c ∙ (λ k. record { release = h.release; adds = h.adds; blocks = x k; splits = y k; wires = z k })
+
+    pub removed : Leaves done_numbers (remove_block (plan_of k) n) b' s' w' h' (Ok tt)
+    removed =
+        let at_once = remove_accepted (plan_in b s w h) n (block_known v n e f) in
+        seen_as (λ (l : Plan). remove_block l n) v
+        (leaves_as (block_gone (plan_in b s w h) n) (Ok tt) at_once without_block refl
+        (tables_wf tb ts tw without_block (subst (λ (c : Sketched (Result (Unit {0}) Reason)). PlanWf c.plan) at_once (remove_wf (plan_in b s w h) n wf.plan))))
+
+  module _ (i o : ℕ) {x y m : ℕ} (f₁ : x ≡ i) (f₂ : y ≡ o) (small : x + y ≤ node_ports) (g : m ≡ ports_in_all (map (recount n i o) (blocks_in b h.blocks))) (room : m ≤ port_slots)
+      (p : blocks_in b' nb ≡ map (recount n i o) (blocks_in b h.blocks)) (q : rows_in s' ns ≡ filter (missed (test.Split (ask.OfDropped n i o))) (rows_in s h.splits))
+      (r : rows_in w' nw ≡ filter (missed (test.Wire (ask.OfDropped n i o))) (rows_in w h.wires)) where
+    with_counts : plan_in b' s' w' h' ≡ block_resized (plan_in b s w h) n i o
+    with_counts =
+        let y : splits_in s' ns ≡ (block_resized (plan_in b s w h) n i o).splits = ap (map split_of) q ∙ splits_left (ask.OfDropped n i o) (rows_in s h.splits) in
+        let z : wires_in w' nw ≡ (block_resized (plan_in b s w h) n i o).wires = ap (map wire_of) r ∙ wires_left (ask.OfDropped n i o) (rows_in w h.wires) in
+        ap (plan_in b' s' w') c ∙ (λ k. record { release = h.release; adds = h.adds; blocks = p k; splits = y k; wires = z k })
+
+    pub resized : Leaves done_numbers (set_counts (plan_of k) n i o) b' s' w' h' (Ok tt)
+    resized =
+        let at_once = resize_accepted (plan_in b s w h) n i o (omega arith) (block_known v n e f) (omega arith) in
+        seen_as (λ (l : Plan). set_counts l n i o) v
+        (leaves_as (block_resized (plan_in b s w h) n i o) (Ok tt) at_once with_counts refl
+        (tables_wf tb ts tw with_counts (subst (λ (c : Sketched (Result (Unit {0}) Reason)). PlanWf c.plan) at_once (resize_wf (plan_in b s w h) n i o wf.plan))))

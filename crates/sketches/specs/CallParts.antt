@@ -2,7 +2,7 @@
 use Rattle.std.specs.Prelude.{◌≡◌, Bool, true, false, not, ◌||◌, List, ℕ, ◌+◌, ◌≤◌, ◌<◌, eqb, leb, ltb, length, Result, Ok, Err, Option, Some, None, cond, get_or, set}
 use Rattle.port_tables.specs.Limits.{node_slots, port_slots}
 use Rattle.port_tables.specs.Places.{Place, Wire, at_spot, at_end, Spot, any_touches}
-use Rattle.sketches.specs.Plan.{PlanBlock, Plan, has_block, ports_in_all, spot_named, is_there, lacks_offset, Far, nothing, far, input_taken, end#, subports_among}
+use Rattle.sketches.specs.Plan.{PlanBlock, Plan, has_block, ports_in_all, spot_named, is_there, lacks_offset, Far, nothing, far, input_taken, subports_among}
 use Rattle.sketches.specs.PlanCalls.{most_adds, bad_offset, is_full, is_wired, sheet_entries, sheet_answered, sheet}
 use Rattle.sketches.specs.PlanNumbers.{sheet_numbers}
 use Rattle.sketches.specs.PlanWf.{splits_set}
@@ -74,6 +74,10 @@ pub record IsPlan (K : Plan) (b s w : List Row) (h : Totals) : Type 0 where
   pub plan : plan_in b s w h ≡ K
   pub wf : SketchWf b s w h
 
+-- the same of a sketch
+abbrev pub HeldPlan : Plan → Held → Type 0
+HeldPlan K k = IsPlan K k.blocks k.splits k.wires k.totals
+
 -- What is refused before any change.
 
 -- 4
@@ -143,10 +147,6 @@ no_port = record { block = 0; side = Incoming; position = 0 }
 
 abbrev pub no_entry : SheetEntry
 no_entry = record { from = no_port; to = no_port; answer = Err NoRoom }
-
--- what is read past the last place
-abbrev pub past_entry : SheetEntry
-past_entry = record { from = no_port; to = no_port; answer = Ok (end# no_port 0, end# no_port 0) }
 
 -- what a sheet leaves: the plan, the answer, and in each entry its own answer; a sheet that is too long keeps its entries
 pub record SheetLeaves (K : Plan) (entries : List SheetEntry) (k : Held) (after : List SheetEntry) (answer : Result (Unit {0}) TooManyEntries) : Type 0 where

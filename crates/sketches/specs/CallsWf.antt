@@ -1,4 +1,5 @@
 -- Every call keeps what holds of a plan.
+use Rattle.std.proofs.lemmas.List.{length-map}
 use Rattle.std.proofs.Math.Path.{◌≡◌, refl, ap}
 use Rattle.std.proofs.Common.{sym, ◌∙◌, subst, inl, inr, ⊎_elim, arith}
 use Rattle.std.specs.Prelude.{Bool, not, ◌||◌, ℕ, zero, suc, ◌+◌, ◌≤◌, ◌<◌, max, leb, ltb, length, Result, Ok, Err}
@@ -13,7 +14,7 @@ use Rattle.port_tables.specs.Entries.{new_count}
 use Rattle.port_tables.specs.declared.direction.Direction.{Direction}
 use Rattle.port_tables.specs.declared.direction.Direction.TheVariants.{Incoming, Outgoing}
 use Rattle.port_tables.specs.Places.{Place, Wire, Spot, at_spot, at_end, of_node, of_dropped, touches, wire_of_sides, without, any_touches, lowest_unwired}
-use Rattle.port_tables.specs.Listing.{member_filter, member_map, length_map, rising_filter, filter_shorter}
+use Rattle.port_tables.specs.Listing.{member_filter, member_map, rising_filter, filter_shorter}
 use Rattle.sketches.specs.Plan.{PlanBlock, Plan, with_splits, with_wires, has_block, ports_on_side, ports_in_all, spot_named, is_there, subports_among, subports_of, set_subports, offset_read, lacks_offset, place_named, above_end, above_wired, offset_ready, subports_ready, ready}
 use Rattle.sketches.specs.PlanCalls.{most_adds, most_wires, Sketched, leaves, add_block, remove_block, recount, set_counts, with_wire, both_linked, tidied}
 use Rattle.sketches.specs.PlanWf.{PlanWf, most_subports, Elsewhere, subports_wf}
@@ -176,7 +177,7 @@ resize_wf K n i o wf = go (not (leb (i + o) node_ports)) (has_block K.blocks n) 
     go false false p c q = wf
     go false true p true q = wf
     go false true p false q =
-        let a = length_map (recount n i o) K.blocks in
+        let a = length-map K.blocks (recount n i o) in
         let k = ltb-false port_slots (ports_in_all (map (recount n i o) K.blocks)) q in
         let c = filter_shorter (λ w. not (touches (of_dropped n i o) w)) K.wires in
         let x = wf.blocks in

@@ -1,4 +1,5 @@
 -- Counts and fan-outs over the tables.
+use Rattle.std.proofs.lemmas.List.{length-map}
 use Rattle.std.specs.Prelude.{◌≡◌, Bool, true, false, List, map, ℕ, length, Ok, Err}
 use Rattle.std.proofs.Common.{sym, ◌∙◌}
 use Rattle.std.proofs.Math.Path.{ap}
@@ -6,7 +7,7 @@ use Rattle.std.proofs.Math.Dec.{eqb}
 use Rattle.std.specs.List.{filter}
 use Rattle.port_tables.specs.declared.direction.Direction.TheVariants.{Outgoing}
 use Rattle.port_tables.specs.Places.{Wire, touches, at_spot}
-use Rattle.port_tables.specs.Listing.{length_map, filter_map}
+use Rattle.port_tables.specs.Listing.{filter_map}
 use Rattle.sketches.specs.Plan.{has_block, spot_named, is_there}
 use Rattle.sketches.specs.PlanLists.{port_fan_out, block_fan_out}
 use Rattle.sketches.specs.Rows.{rows_in, wire_of, hits}
@@ -19,7 +20,7 @@ use Rattle.sketches.specs.declared.sketch.Reason.TheVariants.{UnknownBlock, Unkn
 
 -- rows that are hit are as many as the wires of which the test holds
 same_number : (g : Wire → Bool) (l : List Row) → length (filter (λ r. g (wire_of r)) l) ≡ length (filter g (map wire_of l))
-same_number g l = sym (length_map wire_of (filter (λ r. g (wire_of r)) l)) ∙ ap length (sym (filter_map wire_of g l))
+same_number g l = sym (length-map (filter (λ r. g (wire_of r)) l) wire_of) ∙ ap length (sym (filter_map wire_of g l))
 
 module _ (b s w : List Row) (h : Totals) where
   pub fan_unknown : (x : SketchPort) → is_there (plan_in b s w h) x ≡ false → Err UnknownPort ≡ port_fan_out (plan_in b s w h) x

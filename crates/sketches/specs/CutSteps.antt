@@ -15,8 +15,9 @@ use Rattle.sketches.specs.PlanWf.{most_subports}
 use Rattle.sketches.specs.CallsWf.{cut_wf, above_within, tidied_within}
 use Rattle.sketches.specs.Rows.{Table, rows_in, splits_in, wires_in, wire_of, place_in, end_hits, hits, missed, first}
 use Rattle.sketches.specs.RowReads.{wires_left}
-use Rattle.sketches.specs.BlockSteps.{leaves_as, tables_wf}
-use Rattle.sketches.specs.SplitSteps.{room_for, subports_set}
+use Rattle.sketches.specs.BlockSteps.{leaves_as, tables_wf, port_known}
+use Rattle.sketches.specs.Held.{Held, held_in, plan_of, seen_as, back}
+use Rattle.sketches.specs.SplitSteps.{plan_seen_as, room_for, subports_set}
 use Rattle.sketches.specs.SketchTables.{Totals, plan_in, totals_counts, held_splits, held_wires, SketchWf, Leaves}
 use Rattle.sketches.specs.declared.rows.Row.{Row}
 use Rattle.sketches.specs.declared.tests.EndTest.{EndTest}
@@ -27,7 +28,7 @@ use Rattle.sketches.specs.declared.sketch.SketchEnd.{SketchEnd}
 use Rattle.sketches.specs.declared.sketch.Reason.{Reason}
 use Rattle.sketches.specs.declared.sketch.Reason.TheVariants.{BadOffset, UnknownPort, UnknownOffset}
 use Rattle.sketches.specs.declared.tests.RowEnd.{RowEnd}
-use Rattle.sketches.specs.CallParts.{splits_with, SplitsRoom, IsPlan, judge_one, judge_end, Answers, far_of}
+use Rattle.sketches.specs.CallParts.{splits_with, SplitsRoom, IsPlan, judge_port, judge_one, judge_end, Answers, far_of}
 
 pub answers_as : {A : Type 0} {numbers : A → List ℕ} {called answer : A} → answer ≡ called → Answers numbers called answer
 answers_as {A} {numbers} e = record { answered = e; numbered = ap numbers e }
@@ -131,26 +132,39 @@ not_refused : (x : Option SketchEnd) → is_refused (Ok x) ≡ false
 not_refused None = refl
 not_refused (Some x) = refl
 
-module _ (b s w : List Row) (h : Totals) (wf : SketchWf b s w h) (x : SketchPort) (o : ℕ) {a : Result (Option SketchEnd) Reason} (e : a ≡ subport_link (plan_in b s w h) x o) where
-  abbrev cut_plan : Plan
-  cut_plan = with_wires (plan_in b s w h) (without (at_end (spot_named x) (offset_read (plan_in b s w h) x o)) (wires_in w h.wires))
+-- a plan without the wire at an end
+abbrev end_gone : Plan → SketchPort → ℕ → Plan
+end_gone K x o = with_wires K (without (at_end (spot_named x) (offset_read K x o)) K.wires)
 
-  cut_as : cut_subport (plan_in b s w h) x o ≡ leaves (cond (is_refused a) (plan_in b s w h) cut_plan) a
-  unfolding cut_subport
-  cut_as = ap (λ (y : Result (Option SketchEnd) Reason). leaves (cond (is_refused y) (plan_in b s w h) cut_plan) y) (sym e)
+end_cut_as : (K : Plan) (x : SketchPort) (o : ℕ) {a : Result (Option SketchEnd) Reason} → a ≡ subport_link K x o → cut_subport K x o ≡ leaves (cond (is_refused a) K (end_gone K x o)) a
+unfolding cut_subport
+end_cut_as K x o e = ap (λ (y : Result (Option SketchEnd) Reason). leaves (cond (is_refused y) K (end_gone K x o)) y) (sym e)
 
-  pub end_cut_refused : {q : Reason} → a ≡ Err q → Leaves found_numbers (cut_subport (plan_in b s w h) x o) b s w h (Err q)
-  end_cut_refused {q} f = leaves_as (plan_in b s w h) a (cut_as ∙ ap (λ (y : Result (Option SketchEnd) Reason). leaves (cond (is_refused y) (plan_in b s w h) cut_plan) a) f) refl (sym f) wf
+pub end_cut_refused : (b s w : List Row) (h : Totals) → SketchWf b s w h → (x : SketchPort) (o : ℕ) {a : Result (Option SketchEnd) Reason} → a ≡ subport_link (plan_in b s w h) x o → {q : Reason} → a ≡ Err q →
+    Leaves found_numbers (cut_subport (plan_in b s w h) x o) b s w h (Err q)
+end_cut_refused b s w h wf x o {a} e f =
+    leaves_as (plan_in b s w h) a (end_cut_as (plan_in b s w h) x o e ∙ ap (λ (y : Result (Option SketchEnd) Reason). leaves (cond (is_refused y) (plan_in b s w h) (end_gone (plan_in b s w h) x o)) a) f) refl (sym f) wf
 
-  pub end_cut : {y : Option SketchEnd} → a ≡ Ok y → {t : EndTest} → t ≡ ask.AtEnd x (offset_read (plan_in b s w h) x o) → (w' : List Row) (n : ℕ) → (rows_in w' n ≡ filter (missed (test.Wire t)) (rows_in w h.wires)) × Table w' →
-      {h' : Totals} → h' ≡ held_wires h n → Leaves found_numbers (cut_subport (plan_in b s w h) x o) b s w' h' (Ok y)
-  end_cut {y} f {t} u w' n d {h'} c =
-      let k : plan_in b s w' h' ≡ cut_plan =
-      ap (plan_in b s w') c ∙ ap (with_wires (plan_in b s w h)) (ap (map wire_of) d.0 ∙ wires_left t (rows_in w h.wires) ∙ ap (λ (z : EndTest). without (end_hits z) (wires_in w h.wires)) u) in
-      leaves_as cut_plan a (cut_as ∙ ap (λ (t : Bool). leaves (cond t (plan_in b s w h) cut_plan) a) (ap is_refused f ∙ not_refused y)) k (sym f)
-      (tables_wf wf.block_table wf.split_table d.1 k (cut_wf (plan_in b s w h) (at_end (spot_named x) (offset_read (plan_in b s w h) x o)) wf.plan))
+module _ {b s w : List Row} {h : Totals} {k : Held} (v : held_in b s w h ≡ k) (wf : SketchWf b s w h) (x : SketchPort) (o : ℕ) {a : Result (Option SketchEnd) Reason} (e : a ≡ subport_link (plan_of k) x o) {y : Option SketchEnd} (f : a ≡ Ok y)
+    {t : EndTest} (g : t ≡ ask.AtEnd x (offset_read (plan_of k) x o)) (w' : List Row) (n : ℕ) {h' : Totals} (c : h' ≡ held_wires h n) (d : rows_in w' n ≡ filter (missed (test.Wire t)) (rows_in w h.wires)) (table : Table w') where
+  without_end : plan_in b s w' h' ≡ end_gone (plan_in b s w h) x o
+  without_end =
+      ap (plan_in b s w') c
+      ∙ ap (with_wires (plan_in b s w h)) (ap (map wire_of) d ∙ wires_left t (rows_in w h.wires) ∙ ap (λ (z : EndTest). without (end_hits z) (wires_in w h.wires)) (back (λ (l : Plan). ask.AtEnd x (offset_read l x o)) v g))
+
+  pub end_cut : Leaves found_numbers (cut_subport (plan_of k) x o) b s w' h' (Ok y)
+  end_cut =
+      seen_as (λ (l : Plan). cut_subport l x o) v
+      (leaves_as (end_gone (plan_in b s w h) x o) a
+      (end_cut_as (plan_in b s w h) x o (back (λ (l : Plan). subport_link l x o) v e) ∙ ap (λ (t : Bool). leaves (cond t (plan_in b s w h) (end_gone (plan_in b s w h) x o)) a) (ap is_refused f ∙ not_refused y))
+      without_end (sym f)
+      (tables_wf wf.block_table wf.split_table table without_end (cut_wf (plan_in b s w h) (at_end (spot_named x) (offset_read (plan_in b s w h) x o)) wf.plan)))
 
 -- Cutting a port.
+
+-- a plan without the wires at a port, which is no longer split
+abbrev pub port_gone : Plan → SketchPort → Plan
+port_gone K x = set_subports (with_wires K (without (at_spot (spot_named x)) K.wires)) x 0
 
 module _ (b s w : List Row) (h : Totals) (wf : SketchWf b s w h) (x : SketchPort) where
   pub cut_unknown : is_there (plan_in b s w h) x ≡ false → Leaves cut_numbers (cut_port (plan_in b s w h) x) b s w h (Err UnknownPort)
@@ -171,24 +185,26 @@ module _ (b s w : List Row) (h : Totals) (wf : SketchWf b s w h) (x : SketchPort
     pub cut_room : SplitsRoom s h.splits x 0
     cut_room = room_for b s w' (held_wires h n) cut_kept x still_there 0 (omega arith)
 
-    module _ {s' : List Row} {m : ℕ} (q : (splits_in s' m ≡ splits_with (splits_in s h.splits) x 0) × Table s') {h' : Totals} (c : h' ≡ totals_counts h h.blocks m n) where
-      plan_cut_lem : IsPlan (set_subports (with_wires (plan_in b s w h) (without (at_spot (spot_named x)) (wires_in w h.wires))) x 0) b s' w' h'
-      plan_cut_lem =
-          subst (IsPlan (set_subports (with_wires (plan_in b s w h) (without (at_spot (spot_named x)) (wires_in w h.wires))) x 0) b s' w') (sym c)
-          (subst (λ (k : Plan). IsPlan (set_subports k x 0) b s' w' (totals_counts h h.blocks m n)) wires_cut (subports_set b s w' (held_wires h n) cut_kept x still_there 0 (omega arith) q))
+    tables_cut : {s' : List Row} {m : ℕ} → (splits_in s' m ≡ splits_with (splits_in s h.splits) x 0) × Table s' → {h' : Totals} → h' ≡ totals_counts h h.blocks m n → IsPlan (port_gone (plan_in b s w h) x) b s' w' h'
+    tables_cut {s'} {m} q c =
+        subst (IsPlan (port_gone (plan_in b s w h) x) b s' w') (sym c)
+        (subst (λ (k : Plan). IsPlan (set_subports k x 0) b s' w' (totals_counts h h.blocks m n)) wires_cut (subports_set b s w' (held_wires h n) cut_kept x still_there 0 (omega arith) q))
 
-      pub cut_unsplit : {k : ℕ} → k ≡ subports_of (plan_in b s w h) x → k ≡ 0 → (y : Option RowEnd) {a : Result (Option SketchPort) Reason} → far_of y ≡ far_from (at_spot (spot_named x)) (wires_in w h.wires) → a ≡ port_found (far_of y) →
-          Leaves cut_numbers (cut_port (plan_in b s w h) x) b s' w' h' a
-      unfolding cut_port
-      cut_unsplit e z y f g =
-          leaves_as (set_subports (with_wires (plan_in b s w h) (without (at_spot (spot_named x)) (wires_in w h.wires))) x 0) (port_found (far_from (at_spot (spot_named x)) (wires_in w h.wires)))
-          (rw (there, eq-eqb (subports_of (plan_in b s w h) x) 0 (sym e ∙ z))) plan_cut_lem.plan (g ∙ ap port_found f) plan_cut_lem.wf
+module _ (k : Held) (x : SketchPort) {j : Result (Unit {0}) Reason} (e : j ≡ judge_port (plan_of k) x) (f : j ≡ Ok tt) where
+  pub port_cut : {b s w : List Row} {h : Totals} → held_in b s w h ≡ k → SketchWf b s w h → (s' w' : List Row) (m n : ℕ) {h' : Totals} → h' ≡ totals_counts h h.blocks m n →
+      rows_in w' n ≡ filter (missed (test.Wire (ask.AtPort x))) (rows_in w h.wires) → Table w' → splits_in s' m ≡ splits_with (splits_in s h.splits) x 0 → Table s' → IsPlan (port_gone (plan_of k) x) b s' w' h'
+  port_cut {b} {s} {w} {h} v wf s' w' m n c d tw q ts = plan_seen_as (λ (r : Plan). port_gone r x) v (tables_cut b s w h wf x (port_known v x e f) w' n (d, tw) (q, ts) c)
 
-      pub cut_split : {k : ℕ} → k ≡ subports_of (plan_in b s w h) x → (k ≡ 0 → ⊥) → Leaves cut_numbers (cut_port (plan_in b s w h) x) b s' w' h' (Ok (Some x))
-      unfolding cut_port
-      cut_split e z =
-          leaves_as (set_subports (with_wires (plan_in b s w h) (without (at_spot (spot_named x)) (wires_in w h.wires))) x 0) (Ok (Some x))
-          (rw (there, ne_eqb (subports_of (plan_in b s w h) x) 0 (λ q. z (e ∙ q)))) plan_cut_lem.plan refl plan_cut_lem.wf
+  module _ {b s w : List Row} {h : Totals} (p : IsPlan (port_gone (plan_of k) x) b s w h) {u : ℕ} (l : u ≡ subports_of (plan_of k) x) where
+    pub cut_unsplit : u ≡ 0 → (y : Option RowEnd) → far_of y ≡ far_from (at_spot (spot_named x)) (plan_of k).wires → {a : Result (Option SketchPort) Reason} → a ≡ port_found (far_of y) → Leaves cut_numbers (cut_port (plan_of k) x) b s w h a
+    unfolding cut_port
+    cut_unsplit z y q g =
+        leaves_as (port_gone (plan_of k) x) (port_found (far_from (at_spot (spot_named x)) (plan_of k).wires))
+        (rw (port_known refl x e f, eq-eqb (subports_of (plan_of k) x) 0 (sym l ∙ z))) p.plan (g ∙ ap port_found q) p.wf
+
+    pub cut_split : (u ≡ 0 → ⊥) → Leaves cut_numbers (cut_port (plan_of k) x) b s w h (Ok (Some x))
+    unfolding cut_port
+    cut_split z = leaves_as (port_gone (plan_of k) x) (Ok (Some x)) (rw (port_known refl x e f, ne_eqb (subports_of (plan_of k) x) 0 (λ q. z (l ∙ q)))) p.plan refl p.wf
 
 -- Tidying.
 
@@ -211,12 +227,18 @@ module _ (b s w : List Row) (h : Totals) (wf : SketchWf b s w h) (x : SketchPort
     pub tidy_room : SplitsRoom s h.splits x m
     tidy_room = room_for b s w h wf x there m left_within
 
-    pub tidy_split : {k : ℕ} → k ≡ subports_of (plan_in b s w h) x → (k ≡ 0 → ⊥) → {s' : List Row} {c : ℕ} → (splits_in s' c ≡ splits_with (splits_in s h.splits) x m) × Table s' → {h' : Totals} → h' ≡ held_splits h c →
-        Leaves done_numbers (tidy_port (plan_in b s w h) x) b s' w h' (Ok tt)
-    unfolding tidy_port
-    tidy_split g z {s'} {c} q {h'} p =
-        let k : m ≡ tidied (above_wired (spot_named x) (wires_in w h.wires)) = f ∙ ap tidied e in
-        let r : IsPlan (set_subports (plan_in b s w h) x (tidied (above_wired (spot_named x) (wires_in w h.wires)))) b s' w h' =
-        subst (IsPlan (set_subports (plan_in b s w h) x (tidied (above_wired (spot_named x) (wires_in w h.wires)))) b s' w) (sym p)
-        (subst (λ (n : ℕ). IsPlan (set_subports (plan_in b s w h) x n) b s' w (held_splits h c)) k (subports_set b s w h wf x there m left_within q)) in
-        leaves_as (set_subports (plan_in b s w h) x (tidied (above_wired (spot_named x) (wires_in w h.wires)))) (Ok tt) (rw (there, ne_eqb (subports_of (plan_in b s w h) x) 0 (λ q. z (g ∙ q)))) r.plan refl r.wf
+module _ {b s w : List Row} {h : Totals} {k : Held} (v : held_in b s w h ≡ k) (wf : SketchWf b s w h) (x : SketchPort) {j : Result (Unit {0}) Reason} (e : j ≡ judge_port (plan_of k) x) (f : j ≡ Ok tt)
+    {n m : ℕ} (p : n ≡ above_wired (spot_named x) (plan_of k).wires) (q : m ≡ tidied n) (s' : List Row) (c : ℕ) {h' : Totals} (g : h' ≡ held_splits h c) (d : splits_in s' c ≡ splits_with (splits_in s h.splits) x m) (table : Table s') where
+  port_tidied : IsPlan (set_subports (plan_in b s w h) x (tidied (above_wired (spot_named x) (wires_in w h.wires)))) b s' w h'
+  port_tidied =
+      let a : n ≡ above_wired (spot_named x) (wires_in w h.wires) = back (λ (l : Plan). above_wired (spot_named x) l.wires) v p in
+      let there = port_known v x e f in
+      subst (IsPlan (set_subports (plan_in b s w h) x (tidied (above_wired (spot_named x) (wires_in w h.wires)))) b s' w) (sym g)
+      (subst (λ (n : ℕ). IsPlan (set_subports (plan_in b s w h) x n) b s' w (held_splits h c)) (q ∙ ap tidied a) (subports_set b s w h wf x there m (left_within b s w h wf x there a q) (d, table)))
+
+  pub tidy_split : {u : ℕ} → u ≡ subports_of (plan_of k) x → (u ≡ 0 → ⊥) → Leaves done_numbers (tidy_port (plan_of k) x) b s' w h' (Ok tt)
+  unfolding tidy_port
+  tidy_split l z =
+      seen_as (λ (r : Plan). tidy_port r x) v
+      (leaves_as (set_subports (plan_in b s w h) x (tidied (above_wired (spot_named x) (wires_in w h.wires)))) (Ok tt)
+      (rw (port_known v x e f, ne_eqb (subports_of (plan_in b s w h) x) 0 (λ q. z (back (λ (r : Plan). subports_of r x) v l ∙ q)))) port_tidied.plan refl port_tidied.wf)

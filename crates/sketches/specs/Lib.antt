@@ -13,14 +13,13 @@
 --   SketchWalks   what a step of each walk gives
 --   WalkLaws, SubportLaws   a walk gives each item of its list once, and ends
 --   PlanWf, CallsWf         what holds of a plan after every call: no more split ports than ports, offsets that fit 16 bits
--- The rest are the steps of the code: Searches, RowSteps, RowReads and Offsets for one table, BlockSteps, SplitSteps, LinkSteps, EndSteps, CutSteps, CountSteps
+-- The rest are the steps of the code: RowSteps, RowReads and Offsets for one table, BlockSteps, SplitSteps, LinkSteps, EndSteps, CutSteps, CountSteps
 -- and SheetSteps for the calls, and WalkSteps for the walks.
 pub mod Plan
 pub mod PlanNumbers
 pub mod PlanCalls
 pub mod PlanLists
 pub mod Rows
-pub mod Searches
 pub mod RowSteps
 pub mod RowReads
 pub mod Offsets

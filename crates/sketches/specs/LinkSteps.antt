@@ -45,17 +45,13 @@ wire_laid x y o r b s w w' h m {K} {row} e c q =
     ap (with_wires (plan_in b s w h)) (ap (map wire_of) q ∙ ap (λ (v : Wire). v ∷ wires_in w h.wires) c) ∙ ap (λ (k : Plan). with_wire k x o y r) e
 
 -- the second port is there after the first was made ready
-pub both_there : (b s w : List Row) (h : Totals) (x y : SketchPort) {b₁ s₁ w₁ : List Row} {h₁ : Totals} → IsPlan (ready (plan_in b s w h) x) b₁ s₁ w₁ h₁ → is_there (plan_in b s w h) y ≡ true →
-    SketchWf b₁ s₁ w₁ h₁ × (is_there (plan_in b₁ s₁ w₁ h₁) y ≡ true)
-both_there b s w h x y p e = (p.wf, ap (λ (k : Plan). is_there k y) p.plan ∙ ready_there (plan_in b s w h) x y ∙ e)
+pub both_there : (K : Plan) (x y : SketchPort) {b s w : List Row} {h : Totals} → IsPlan (ready K x) b s w h → is_there K y ≡ true → is_there (plan_in b s w h) y ≡ true
+both_there K x y p e = ap (λ (k : Plan). is_there k y) p.plan ∙ ready_there K x y ∙ e
 
 -- Both ports are linked.
 
 module _ (b s w : List Row) (h : Totals) (x y : SketchPort) (l : Linkable b s w h x y) where
   module _ {b₁ s₁ w₁ : List Row} {h₁ : Totals} (p : IsPlan (ready (plan_in b s w h) x) b₁ s₁ w₁ h₁) where
-    pub second_there : SketchWf b₁ s₁ w₁ h₁ × (is_there (plan_in b₁ s₁ w₁ h₁) y ≡ true)
-    second_there = both_there b s w h x y p l.second
-
     module _ {b₂ s₂ w₂ : List Row} {h₂ : Totals} (q : IsPlan (ready (plan_in b₁ s₁ w₁ h₁) y) b₂ s₂ w₂ h₂) where
       both : plan_in b₂ s₂ w₂ h₂ ≡ ready (ready (plan_in b s w h) x) y
       both = q.plan ∙ ap (λ (k : Plan). ready k y) p.plan
@@ -68,74 +64,61 @@ module _ (b s w : List Row) (h : Totals) (x y : SketchPort) (l : Linkable b s w 
           let m = l.room in
           omega arith
 
-      pub both_linked_lem : {u v : SketchEnd} → u ≡ end# x (offset_ready (plan_in b s w h) x) → v ≡ end# y (offset_ready (plan_in b₁ s₁ w₁ h₁) y) → {row : Row} → wire_of row ≡ wire_of_sides u.port.side (place_named u.port u.offset) (place_named v.port v.offset) →
-          {w₃ : List Row} {n : ℕ} → (rows_in w₃ n ≡ row ∷ rows_in w₂ h₂.wires) × Table w₃ →
-          Leaves link_numbers (both_linked (plan_in b s w h) x y) b₂ s₂ w₃ (held_wires h₂ n) (Ok (u, v))
-      unfolding ready
-      both_linked_lem {u} {v} f g {row} c {w₃} {n} r =
-          let k : v ≡ end# y (offset_ready (plan_in b s w h) y) = g ∙ ap (λ (l : List Wire). end# y (offset_ready (with_wires (plan_in b s w h) l) y)) (ap (λ (k : Plan). k.wires) p.plan ∙ ready_wires (plan_in b s w h) x) in
-          let d : wire_of row ≡ wire_of_sides x.side (place_named x (offset_ready (plan_in b s w h) x)) (place_named y (offset_ready (plan_in b s w h) y)) =
-          c ∙ ap (λ (z : SketchEnd). wire_of_sides z.port.side (place_named z.port z.offset) (place_named v.port v.offset)) f ∙ ap (λ (z : SketchEnd). wire_of_sides x.side (place_named x (offset_ready (plan_in b s w h) x)) (place_named z.port z.offset)) k in
-          let e : plan_in b₂ s₂ w₃ (held_wires h₂ n) ≡ (both_linked (plan_in b s w h) x y).plan = wire_laid x y (offset_ready (plan_in b s w h) x) (offset_ready (plan_in b s w h) y) b₂ s₂ w₂ w₃ h₂ n both d r.0 in
-          let a = length_wires w h.wires in
-          let m = l.room in
-          leaves_as (both_linked (plan_in b s w h) x y).plan (both_linked (plan_in b s w h) x y).answer refl e
-          (ap (λ (z : SketchEnd). (Ok (z, v))) f ∙ ap (λ (z : SketchEnd). (Ok (end# x (offset_ready (plan_in b s w h) x), z))) k)
-          (tables_wf q.wf.block_table q.wf.split_table r.1 e (linked_wf (plan_in b s w h) x y l.wf.plan l.first l.second (omega arith)))
+      module _ {u v : SketchEnd} (f : u ≡ end# x (offset_ready (plan_in b s w h) x)) (g : v ≡ end# y (offset_ready (plan_in b₁ s₁ w₁ h₁) y)) {row : Row} (c : wire_of row ≡ wire_of_sides u.port.side (place_named u.port u.offset) (place_named v.port v.offset))
+          (w₃ : List Row) (n : ℕ) {h' : Totals} (a : h' ≡ held_wires h₂ n) (r : rows_in w₃ n ≡ row ∷ rows_in w₂ h₂.wires) (table : Table w₃) where
+        pub both_linked_lem : Leaves link_numbers (both_linked (plan_in b s w h) x y) b₂ s₂ w₃ h' (Ok (u, v))
+        unfolding ready
+        both_linked_lem =
+            let k : v ≡ end# y (offset_ready (plan_in b s w h) y) = g ∙ ap (λ (l : List Wire). end# y (offset_ready (with_wires (plan_in b s w h) l) y)) (ap (λ (k : Plan). k.wires) p.plan ∙ ready_wires (plan_in b s w h) x) in
+            let d : wire_of row ≡ wire_of_sides x.side (place_named x (offset_ready (plan_in b s w h) x)) (place_named y (offset_ready (plan_in b s w h) y)) =
+            c ∙ ap (λ (z : SketchEnd). wire_of_sides z.port.side (place_named z.port z.offset) (place_named v.port v.offset)) f ∙ ap (λ (z : SketchEnd). wire_of_sides x.side (place_named x (offset_ready (plan_in b s w h) x)) (place_named z.port z.offset)) k in
+            let e : plan_in b₂ s₂ w₃ h' ≡ (both_linked (plan_in b s w h) x y).plan =
+            ap (plan_in b₂ s₂ w₃) a ∙ wire_laid x y (offset_ready (plan_in b s w h) x) (offset_ready (plan_in b s w h) y) b₂ s₂ w₂ w₃ h₂ n both d r in
+            let o = length_wires w h.wires in
+            let m = l.room in
+            leaves_as (both_linked (plan_in b s w h) x y).plan (both_linked (plan_in b s w h) x y).answer refl e
+            (ap (λ (z : SketchEnd). (Ok (z, v))) f ∙ ap (λ (z : SketchEnd). (Ok (end# x (offset_ready (plan_in b s w h) x), z))) k)
+            (tables_wf q.wf.block_table q.wf.split_table table e (linked_wf (plan_in b s w h) x y l.wf.plan l.first l.second (omega arith)))
 
   pub ends_apart : {u v : SketchEnd} {o r : ℕ} → u ≡ end# x o → v ≡ end# y r → same_side u.port.side v.port.side ≡ false
   ends_apart f g = rw (f, g) l.sides
 
 -- The calls, as they are judged.
 
-abbrev pub link_as : Plan → SketchPort → SketchPort → Result (Unit {0}) Reason → Sketched (Result (SketchEnd × SketchEnd) Reason)
-link_as K x y (Ok u) = both_linked K x y
-link_as K x y (Err UnknownSecondPort) = leaves (ready K x) (Err UnknownSecondPort)
-link_as K x y (Err SameSide) = leaves (ready (ready K x) y) (Err SameSide)
-link_as K x y (Err q) = leaves K (Err q)
+-- what is left of the plan after a refusal
+abbrev pub link_as : (Reason → Plan) → Plan → SketchPort → SketchPort → Result (Unit {0}) Reason → Sketched (Result (SketchEnd × SketchEnd) Reason)
+link_as left K x y (Ok u) = both_linked K x y
+link_as left K x y (Err q) = leaves (left q) (Err q)
 
-abbrev pub clean_as : Plan → SketchPort → SketchPort → Result (Unit {0}) Reason → Sketched (Result (SketchEnd × SketchEnd) Reason)
-clean_as K x y (Ok u) = both_linked K x y
-clean_as K x y (Err q) = leaves K (Err q)
+-- a link keeps what was made ready
+abbrev pub made_ready : Plan → SketchPort → SketchPort → Reason → Plan
+made_ready K x y UnknownSecondPort = ready K x
+made_ready K x y SameSide = ready (ready K x) y
+made_ready K x y q = K
 
 module _ (K : Plan) (x y : SketchPort) where
-  pub link_as_judged : link_ports K x y ≡ link_as K x y (judge_ports K x y)
-  unfolding link_ports judge_ports
-  link_as_judged = go (is_there K x) (input_taken K x y) (is_there K y) (same_side x.side y.side) (is_full K)
-    where
-      go : (a b c d e : Bool) →
-          cond (not a) (leaves K (Err UnknownPort))
-          (cond b (leaves K (Err InputWired))
-          (cond (not c) (leaves (ready K x) (Err UnknownSecondPort))
-          (cond d (leaves (ready (ready K x) y) (Err SameSide))
-          (cond e (leaves K (Err NoRoom))
-          (both_linked K x y)))))
-          ≡ link_as K x y (judge_by a b c d e)
-      go false b c d e = refl
-      go true true c d e = refl
-      go true false false d e = refl
-      go true false true true e = refl
-      go true false true false true = refl
-      go true false true false false = refl
+  as_judged : (left : Reason → Plan) (a b c d e : Bool) →
+      cond (not a) (leaves (left UnknownPort) (Err UnknownPort))
+      (cond b (leaves (left InputWired) (Err InputWired))
+      (cond (not c) (leaves (left UnknownSecondPort) (Err UnknownSecondPort))
+      (cond d (leaves (left SameSide) (Err SameSide))
+      (cond e (leaves (left NoRoom) (Err NoRoom))
+      (both_linked K x y)))))
+      ≡ link_as left K x y (judge_by a b c d e)
+  as_judged left false b c d e = refl
+  as_judged left true true c d e = refl
+  as_judged left true false false d e = refl
+  as_judged left true false true true e = refl
+  as_judged left true false true false true = refl
+  as_judged left true false true false false = refl
 
-  pub clean_as_judged : link_clean K x y ≡ clean_as K x y (judge_ports K x y)
+  pub link_as_judged : link_ports K x y ≡ link_as (made_ready K x y) K x y (judge_ports K x y)
+  unfolding link_ports judge_ports
+  link_as_judged = as_judged (made_ready K x y) (is_there K x) (input_taken K x y) (is_there K y) (same_side x.side y.side) (is_full K)
+
+  pub clean_as_judged : link_clean K x y ≡ link_as (λ q. K) K x y (judge_ports K x y)
   unfolding link_clean judge_ports
-  clean_as_judged = go (is_there K x) (input_taken K x y) (is_there K y) (same_side x.side y.side) (is_full K)
-    where
-      go : (a b c d e : Bool) →
-          cond (not a) (leaves K (Err UnknownPort))
-          (cond b (leaves K (Err InputWired))
-          (cond (not c) (leaves K (Err UnknownSecondPort))
-          (cond d (leaves K (Err SameSide))
-          (cond e (leaves K (Err NoRoom))
-          (both_linked K x y)))))
-          ≡ clean_as K x y (judge_by a b c d e)
-      go false b c d e = refl
-      go true true c d e = refl
-      go true false false d e = refl
-      go true false true true e = refl
-      go true false true false true = refl
-      go true false true false false = refl
+  clean_as_judged = as_judged (λ q. K) (is_there K x) (input_taken K x y) (is_there K y) (same_side x.side y.side) (is_full K)
 
 -- what is known of ports that are judged so
 abbrev pub Known : Plan → SketchPort → SketchPort → Result (Unit {0}) Reason → Type 0

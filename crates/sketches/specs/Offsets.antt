@@ -8,9 +8,8 @@ use Rattle.std.proofs.Math.Seq.{drop-cons}
 use Rattle.std.proofs.Math.ListN.{take, drop}
 use Prim.Native.Nat.{ℕ, zero, suc, ◌+◌, ◌≤◌, ◌<◌}
 use native.Mathlib.Omega.{arith}
-use Rattle.std.proofs.lemmas.List.{length-replicate, get_or-replicate}
+use Rattle.std.proofs.lemmas.List.{length-map, length-replicate, get_or-replicate}
 use Rattle.std.proofs.lemmas.Bool.{eqb-false}
-use Rattle.port_tables.specs.Listing.{length_map}
 use Rattle.port_tables.specs.Places.{Place, Wire, Spot, at_spot, at_end, any_touches, lowest_unwired}
 use Rattle.sketches.specs.Rows.{row_slots, rows_in, row_at, wire_of, wires_in}
 use Rattle.sketches.specs.declared.rows.Row.{Row}
@@ -124,4 +123,4 @@ marks_turn s t i r m {x} {y} {m'} k e p q a b =
     (marks_more s (wires_in t i) (wire_of r) m k))
 
 pub length_wires : (t : List Row) (n : ℕ) → length (wires_in t n) ≡ n
-length_wires t n = length_map wire_of (rows_in t n) ∙ length_rows t n
+length_wires t n = length-map (rows_in t n) wire_of ∙ length_rows t n

@@ -1,5 +1,6 @@
 -- What holds of a plan after every call: the limits, that a split port is there and stands once, and how high offsets are. It follows that there are
 -- never more split ports than ports, and that an offset fits 16 bits.
+use Rattle.std.proofs.lemmas.List.{length-map}
 use Rattle.std.specs.Prelude.{◌≡◌, refl, Bool, true, false, cond, not, List, [], ◌∷◌, ◌++◌, map, ℕ, suc, ◌≤◌, ◌<◌, eqb, length}
 use Rattle.std.proofs.Common.{sym, ◌∙◌, subst, ⊎_elim, arith, length-append, eqb-true, eq-eqb, ltb-true}
 use Rattle.std.proofs.lemmas.Bool.{not-true, true≢false}
@@ -10,9 +11,8 @@ use Rattle.port_tables.specs.Entries.{same_side, new_count}
 use Rattle.port_tables.specs.declared.direction.Direction.{Direction}
 use Rattle.port_tables.specs.declared.direction.Direction.TheVariants.{Incoming, Outgoing}
 use Rattle.port_tables.specs.Places.{Place, Wire, Spot, spot, at_spot}
-use Rattle.port_tables.specs.Listing.{member_left, member_right, member_filter, member_map, map_member, range_member, length_map, rising_filter, rising_map, Apart, partners, length_range}
-use Rattle.port_tables.specs.declared.release.Release.{Release}
-use Rattle.sketches.specs.Plan.{PlanBlock, Plan, empty_plan, with_splits, ports_on_side, ports_in_all, spot_named, is_there, subports_of, set_subports}
+use Rattle.port_tables.specs.Listing.{member_left, member_right, member_filter, member_map, map_member, range_member, rising_filter, rising_map, Apart, partners, length_range}
+use Rattle.sketches.specs.Plan.{PlanBlock, Plan, with_splits, ports_on_side, ports_in_all, spot_named, is_there, subports_of, set_subports}
 use Rattle.sketches.specs.PlanCalls.{most_wires}
 use Rattle.sketches.specs.declared.sketch.SketchPort.{SketchPort}
 
@@ -36,20 +36,6 @@ pub record PlanWf (K : Plan) : Type 0 where
   pub subports : (x : Place) → Member x K.splits → x.offset ≤ most_subports
   pub offsets : (w : Wire) → Member w K.wires → (w.out.offset < most_subports) × (w.into.offset < most_subports)
 
-pub empty_wf : (r : Release) → PlanWf (empty_plan r)
-unfolding ports_in_all
-empty_wf r =
-    record {
-      blocks = omega arith;
-      ports = omega arith;
-      wires = omega arith;
-      named = λ b i. absurd i;
-      there = λ x i. absurd i;
-      apart = tt;
-      subports = λ x i. absurd i;
-      offsets = λ w i. absurd i;
-    }
-
 -- No more split ports than ports.
 
 spots_of : List PlanBlock → List Spot
@@ -62,8 +48,8 @@ length_spots [] = refl
 length_spots (b ∷ l) =
     let e = length-append (map (spot b.name Incoming) (range 0 b.incoming)) (map (spot b.name Outgoing) (range 0 b.outgoing) ++ spots_of l) in
     let f = length-append (map (spot b.name Outgoing) (range 0 b.outgoing)) (spots_of l) in
-    let i = length_map (spot b.name Incoming) (range 0 b.incoming) ∙ length_range 0 b.incoming in
-    let o = length_map (spot b.name Outgoing) (range 0 b.outgoing) ∙ length_range 0 b.outgoing in
+    let i = length-map (range 0 b.incoming) (spot b.name Incoming) ∙ length_range 0 b.incoming in
+    let o = length-map (range 0 b.outgoing) (spot b.name Outgoing) ∙ length_range 0 b.outgoing in
     let k = length_spots l in
     omega arith
 
@@ -91,7 +77,7 @@ spot_listed (b ∷ l) n d i h = go (eqb b.name n) refl h (spot_listed l n d i)
 
 pub splits_fit : (K : Plan) → PlanWf K → length K.splits ≤ port_slots
 splits_fit K wf =
-    let a = length_map spot_at K.splits in
+    let a = length-map K.splits spot_at in
     let b = length_spots K.blocks in
     let p = wf.ports in
     let h = partners {A = Spot} {B = Spot} (λ x y. x ≡ y) (λ x z y e f. e ∙ sym f) (map spot_at K.splits) (spots_of K.blocks)

@@ -7,16 +7,28 @@ use Rattle.std.proofs.lemmas.List.Sums.{count_by_more_yes, count_by_more_no, sum
 use Rattle.std.specs.List.{count_by, sum_by}
 use Rattle.std.proofs.Math.Bool.{true, false}
 use mathlib.Core.List.{List, [], ◌∷◌, map}
-use Prim.Native.Nat.{ℕ, zero, suc, ◌+◌, ◌-◌, ◌≤◌, ◌<◌}
+use Prim.Native.Nat.{ℕ, zero, suc, ◌+◌, ◌-◌, ◌^◌, ◌≤◌, ◌<◌}
 use Rattle.std.proofs.Math.Numerals.{add-one}
 use native.Mathlib.Omega.{arith}
 use Rattle.std.proofs.Math.ListN.{length}
 use borrow.Author.Tests.{le-leb, leb-true, eqb-true, eqb-false}
 use Rattle.std.proofs.Math.Dec.{eqb, leb}
 use Rattle.std.specs.List.{filter}
-use Rattle.sketches.specs.Searches.{Searched, SearchedBack}
+use Rattle.port_tables.specs.Searches.{Searched, SearchedBack}
 use Rattle.sketches.specs.Plan.{PlanBlock, ports_in_all}
-use Rattle.sketches.specs.Rows.{hits, row_at, put_row, rows_in, Table, newest_hit, oldest_hit, block_of, past, first, is_there_any, no_row}
+use denote.Ref.{Bor}
+use denote.Param.Members.{Mut}
+use Rattle.std.specs.declared.iter.Map.{Map}
+use Rattle.std.specs.declared.slice.Iter.{Iter}
+use Rattle.std.specs.Fn.{Called}
+use Rattle.std.specs.Iterator.Adapters.{map_source, map_callee, map_steps}
+use Rattle.std.specs.Iterator.Runs.{EachRunFrom}
+use Rattle.std.specs.List.{fold}
+use Rattle.std.specs.Slice.Iter.{iter_rest}
+use Rattle.std.proofs.iter.Yields.{fronts}
+use Rattle.std.proofs.lemmas.Iterator.{YieldsList-from_slice}
+use Rattle.std.proofs.lemmas.Iterator.Adapters.{fits_from_length, at_most_from_yields_List}
+use Rattle.sketches.specs.Rows.{row_slots, hits, row_at, put_row, rows_in, Table, newest_hit, oldest_hit, block_of, past, first, is_there_any, no_row}
 use Rattle.sketches.specs.declared.tests.Test.{Test}
 use Rattle.sketches.specs.declared.rows.Row.{Row}
 
@@ -75,6 +87,11 @@ ports_taken k seen a b t (suc n) h =
     let q : sum_by (λ r. (k r).incoming + (k r).outgoing) (take (n + 1) t) ≡ sum_by (λ r. (k r).incoming + (k r).outgoing) (take n t) + ((k (row_at t n)).incoming + (k (row_at t n)).outgoing) = sum_by_more (λ r. (k r).incoming + (k r).outgoing) t n no_row (omega arith) in
     let p = ports_taken k seen a b t n (omega arith) in
     rw (b (row_at t n) (rows_in t n)) (rw add-one at q ∙ omega arith)
+
+-- what `sum` asks of rows of which each gives few
+pub sum_fits : {F : Type 0} {g : Mut F (Bor Row × Unit {0}) ℕ} {f : F} {s : Map (Iter Row) F} (t : List Row) → iter_rest (map_source s) ≡ t → length t ≤ row_slots → map_callee s ≡ f
+    → ((x : Bor Row) (r : ℕ) (q : F) → Called g f (x, tt) r q → (q ≡ f) × (r ≤ 8589934590)) → EachRunFrom (map_steps fronts g) s (λ p. fold (λ a x. a + x) 0 p.items < 2 ^ 64)
+sum_fits {g = g} {f = f} t e few same told = fits_from_length g f row_slots (2 ^ 64) (at_most_from_yields_List (YieldsList-from_slice t e) few) same (omega arith) (λ x r q k. let p = told x r q k in (p.0, omega (arith, p.1)))
 
 -- Rows that are counted.
 

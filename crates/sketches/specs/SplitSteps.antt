@@ -1,4 +1,5 @@
 -- The number of subports of a port over the table of split ports.
+use Rattle.std.proofs.lemmas.List.{length-map}
 use Rattle.std.specs.Prelude.{◌≡◌, refl, Bool, true, false, cond, not, List, ◌∷◌, map, ℕ, ◌≤◌, ◌<◌, eqb, length}
 use Rattle.std.proofs.Common.{sym, ap, ◌∙◌, arith, eq-eqb, ne_eqb}
 use Rattle.std.proofs.Math.Path.{subst}
@@ -6,7 +7,6 @@ use Rattle.std.specs.List.{filter}
 use Rattle.port_tables.specs.Entries.{side_number}
 use Rattle.port_tables.specs.declared.direction.Direction.{Direction}
 use Rattle.port_tables.specs.declared.direction.Direction.TheVariants.{Incoming, Outgoing}
-use Rattle.port_tables.specs.Listing.{length_map}
 use Rattle.port_tables.specs.Places.{Place, at_spot}
 use Rattle.sketches.specs.Plan.{Plan, with_splits, spot_named, is_there, subports_among, subports_of, set_subports, offset_ready, subports_ready, ready}
 use Rattle.sketches.specs.PlanCalls.{most_wires}
@@ -16,7 +16,7 @@ use Rattle.sketches.specs.Rows.{row_slots, Table, rows_in, splits_in, split_of, 
 use Rattle.sketches.specs.RowReads.{splits_left}
 use Rattle.sketches.specs.Offsets.{length_rows}
 use Rattle.sketches.specs.BlockSteps.{tables_wf}
-use Rattle.sketches.specs.Held.{Held, plan_of}
+use Rattle.sketches.specs.Held.{Held, held_in, plan_of, back}
 use Rattle.sketches.specs.SketchTables.{Totals, plan_in, held_splits, SketchWf}
 use Rattle.sketches.specs.declared.rows.Row.{Row}
 use Rattle.sketches.specs.declared.sketch.SketchPort.{SketchPort}
@@ -25,7 +25,7 @@ use Rattle.sketches.specs.declared.tests.Test.TheVariants as test
 use Rattle.sketches.specs.CallParts.{splits_with, SplitsRoom, split_row, IsPlan}
 
 pub length_splits : (t : List Row) (n : ℕ) → length (splits_in t n) ≡ n
-length_splits t n = length_map split_of (rows_in t n) ∙ length_rows t n
+length_splits t n = length-map (rows_in t n) split_of ∙ length_rows t n
 
 pub set_is_with : (K : Plan) (p : SketchPort) (c : ℕ) → set_subports K p c ≡ with_splits K (splits_with K.splits p c)
 set_is_with K p c = go (eqb (subports_of K p) c)
@@ -101,8 +101,15 @@ module _ (b s w : List Row) (h : Totals) (wf : SketchWf b s w h) (p : SketchPort
     pub ready_room : SplitsRoom s h.splits p n
     ready_room = room_for b s w h wf p there n number_within
 
-    pub port_ready : {s' : List Row} {m : ℕ} → (splits_in s' m ≡ splits_with (splits_in s h.splits) p n) × Table s' → {h' : Totals} → h' ≡ held_splits h m → IsPlan (ready (plan_in b s w h) p) b s' w h'
-    unfolding ready
-    port_ready {s'} {m} x {h'} q =
-        subst (IsPlan (set_subports (plan_in b s w h) p (subports_ready (subports_of (plan_in b s w h) p) (offset_ready (plan_in b s w h) p))) b s' w) (sym q)
-        (subst (λ (k : ℕ). IsPlan (set_subports (plan_in b s w h) p k) b s' w (held_splits h m)) number (subports_set b s w h wf p there n number_within x))
+module _ {b s w : List Row} {h : Totals} {k : Held} (v : held_in b s w h ≡ k) (wf : SketchWf b s w h) (p : SketchPort) (there : is_there (plan_of k) p ≡ true) {o c n : ℕ} (e : o ≡ offset_ready (plan_of k) p) (f : c ≡ subports_of (plan_of k) p)
+    (g : n ≡ subports_ready c o) (s' : List Row) (m : ℕ) {h' : Totals} (u : h' ≡ held_splits h m) (x : splits_in s' m ≡ splits_with (splits_in s h.splits) p n) (table : Table s') where
+  pub port_ready : IsPlan (ready (plan_of k) p) b s' w h'
+  unfolding ready
+  port_ready =
+      let there = subst (λ (l : Held). is_there (plan_of l) p ≡ true) (sym v) there in
+      let e = back (λ (l : Plan). offset_ready l p) v e in
+      let f = back (λ (l : Plan). subports_of l p) v f in
+      plan_seen_as (λ (l : Plan). ready l p) v
+      (subst (IsPlan (set_subports (plan_in b s w h) p (subports_ready (subports_of (plan_in b s w h) p) (offset_ready (plan_in b s w h) p))) b s' w) (sym u)
+      (subst (λ (k : ℕ). IsPlan (set_subports (plan_in b s w h) p k) b s' w (held_splits h m)) (number b s w h wf p there e f g)
+      (subports_set b s w h wf p there n (number_within b s w h wf p there e f g) (x, table))))

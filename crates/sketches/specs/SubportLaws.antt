@@ -1,4 +1,5 @@
 -- What is left of a walk over the subports of a side: from its start the whole list, and each step takes the first of what is left.
+-- subports_whole, subport_takes_first and subport_ends_empty are statements: they say what the walk does, and nothing rests on them.
 use Rattle.std.proofs.lemmas.Option.{some_pair_parts}
 use Rattle.std.proofs.Math.Path.{◌≡◌, refl, ap}
 use Rattle.std.proofs.Common.{sym, ◌∙◌, arith}
@@ -16,7 +17,7 @@ use Rattle.sketches.specs.SketchWalks.{offset_count, next_subport}
 use Rattle.sketches.specs.declared.walks.SubportWalk.{SubportWalk}
 use Rattle.sketches.specs.declared.sketch.SketchPort.{SketchPort}
 use Rattle.sketches.specs.declared.sketch.SketchEnd.{SketchEnd}
-use Rattle.port_tables.specs.Listing.{range_none}
+use Rattle.port_tables.specs.Listing.{range_none, range_first}
 
 -- the ends of a port, from an offset on
 abbrev ends_from : Plan → SketchPort → ℕ → List SketchEnd
@@ -48,15 +49,9 @@ offsets_are (suc c) = ap (range 0) (go (eqb (suc c) 0) refl)
     go true p = let e = eqb-true (suc c) 0 p in absurd (omega arith)
     go false p = refl
 
-range_first : (i n : ℕ) → 0 < n → range i n ≡ i ∷ range (suc i) (n - 1)
-unfolding range
-range_first i zero h = absurd (omega arith)
-range_first i (suc n) h = let e : suc n - 1 ≡ n = omega arith in rw e
-
 ends_first : (K : Plan) (x : SketchPort) (o : ℕ) → o < offset_count (subports_of K x) → ends_from K x o ≡ end# x o ∷ ends_from K x (suc o)
 ends_first K x o h =
-    let e : offset_count (subports_of K x) - o - 1 ≡ offset_count (subports_of K x) - suc o = omega arith in
-    ap (map (end# x)) (range_first o (offset_count (subports_of K x) - o) (omega arith) ∙ ap (λ (m : ℕ). o ∷ range (suc o) m) e)
+    ap (map (end# x)) (range_first o (offset_count (subports_of K x) - o) (offset_count (subports_of K x) - suc o) (omega arith))
 
 ends_none : (K : Plan) (x : SketchPort) (o : ℕ) → offset_count (subports_of K x) ≤ o → ends_from K x o ≡ []
 ends_none K x o h = ap (map (end# x)) (range_none o (offset_count (subports_of K x) - o) (omega arith))
@@ -64,9 +59,8 @@ ends_none K x o h = ap (map (end# x)) (range_none o (offset_count (subports_of K
 beyond_first : (K : Plan) (n : ℕ) (d : Direction) (i : ℕ) → i < ports_on_side K.blocks n d → ends_beyond K n d i ≡ ends_from K (port_on n d i) 0 ++ ends_beyond K n d (suc i)
 unfolding flat_map
 beyond_first K n d i h =
-    let e : ports_on_side K.blocks n d - i - 1 ≡ ports_on_side K.blocks n d - suc i = omega arith in
     let z : offset_count (subports_of K (port_on n d i)) - 0 ≡ offset_count (subports_of K (port_on n d i)) = omega arith in
-    ap (flat_map (λ j. map (end# (port_on n d j)) (offsets_of (subports_of K (port_on n d j))))) (range_first i (ports_on_side K.blocks n d - i) (omega arith) ∙ ap (λ (m : ℕ). i ∷ range (suc i) m) e)
+    ap (flat_map (λ j. map (end# (port_on n d j)) (offsets_of (subports_of K (port_on n d j))))) (range_first i (ports_on_side K.blocks n d - i) (ports_on_side K.blocks n d - suc i) (omega arith))
     ∙ ap (λ (l : List ℕ). map (end# (port_on n d i)) l ++ ends_beyond K n d (suc i)) (offsets_are (subports_of K (port_on n d i)) ∙ ap (range 0) (sym z))
 
 beyond_none : (K : Plan) (n : ℕ) (d : Direction) (i : ℕ) → ports_on_side K.blocks n d ≤ i → ends_beyond K n d i ≡ []

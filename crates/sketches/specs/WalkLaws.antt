@@ -1,5 +1,6 @@
 -- What is left of a walk: from its start that is the whole list, each step takes one item from the front or from the back, and where a step gives the end
 -- nothing is left. So a walk gives each item once, from either end, and ends.
+-- The laws of the starts (walk_of_.., walk_between, walk_with_neighbours), .._takes_.. and .._ends_empty are statements: they say what the walks do, and nothing rests on them.
 use Rattle.std.proofs.lemmas.List.{map-append}
 use Rattle.std.proofs.lemmas.Option.{some_pair_parts}
 use Rattle.std.proofs.Math.Path.{◌≡◌, refl, ap}

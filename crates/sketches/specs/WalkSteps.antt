@@ -1,27 +1,26 @@
 -- A step of each walk over the tables.
-use Rattle.std.specs.Prelude.{◌≡◌, refl, Bool, true, false, cond, List, ◌∷◌, eqb, leb, Option, Some, None, Ok}
+use Rattle.std.specs.Prelude.{◌≡◌, refl, Bool, true, false, cond, List, ◌∷◌, eqb, leb, Option, Some, None}
 use Rattle.std.proofs.Common.{sym, ◌∙◌, inl, inr}
 use Rattle.std.proofs.Math.Path.{ap}
 use Prim.Native.Nat.{ℕ, zero, suc, ◌+◌, ◌-◌, ◌≤◌, ◌<◌, min, max}
 use native.Mathlib.Omega.{arith}
 use Rattle.std.proofs.Math.Numerals.{add-one}
-use borrow.Author.Tests.{eqb-true, eqb-false, leb-true, leb-false, le-leb, lt-leb, lt-ltb, le-ltb}
+use borrow.Author.Tests.{eqb-true, eqb-false, leb-true, leb-false, lt-leb, le-ltb}
 use Rattle.port_tables.specs.Lists.{Member}
 use Rattle.port_tables.specs.Listing.{map_member}
 use Rattle.sketches.specs.Plan.{Plan, ports_on_side, subports_of, end#}
 use Rattle.sketches.specs.PlanLists.{port_on}
 use Rattle.sketches.specs.PlanWf.{most_subports}
-use Rattle.sketches.specs.Rows.{row_at, rows_in, wire_of, hits, past, newest_hit, oldest_hit}
+use Rattle.sketches.specs.Rows.{row_at, rows_in, wire_of, place_in, hits, past, newest_hit, oldest_hit}
+use Rattle.sketches.specs.Held.{Held, held_in}
+use Rattle.port_tables.specs.Places.{Place}
+use Rattle.sketches.specs.declared.tests.RowEnd.{RowEnd}
 use Rattle.sketches.specs.SketchTables.{Totals, SketchWf}
 use Rattle.sketches.specs.declared.rows.Row.{Row}
 use Rattle.sketches.specs.declared.tests.Walk.{Walk}
 use Rattle.sketches.specs.declared.walks.SketchWire.{SketchWire}
 use Rattle.sketches.specs.declared.walks.SubportWalk.{SubportWalk}
-use Rattle.sketches.specs.declared.sketch.Reason.{Reason}
-use Rattle.sketches.specs.SketchWalks.{start_of, wire_held, wire_below, wire_above, next_wire, previous_wire, block_below, next_block, offset_count, Knows, next_subport}
-
-pub started : {A : Type 0} (b : Bool) (r : Reason) (w : A) → b ≡ true → Ok w ≡ start_of b r w
-started b r w e = rw e
+use Rattle.sketches.specs.SketchWalks.{wire_held, wire_below, wire_above, next_wire, previous_wire, block_below, next_block, offset_count, Knows, next_subport}
 
 pub newest_high : (f : Row → Bool) (t : List Row) (low n : ℕ) → newest_hit f t low n ≤ n
 unfolding newest_hit
@@ -55,8 +54,18 @@ row_among t (suc n) i h = go (eqb i n) refl (row_among t n i)
     go true e rest = inl (ap (row_at t) (eqb-true i n e))
     go false e rest = let d = eqb-false i n e in inr (rest (omega (arith, d)))
 
-pub row_offsets : {b s w : List Row} {h : Totals} (i : ℕ) → SketchWf b s w h → i < h.wires → ((wire_of (row_at w i)).out.offset < most_subports) × ((wire_of (row_at w i)).into.offset < most_subports)
-row_offsets {b} {s} {w} {h} i wf l = wf.plan.offsets (wire_of (row_at w i)) (map_member wire_of (row_at w i) (rows_in w h.wires) (row_among w h.wires i l))
+-- the ends of a row in use have offsets that fit
+module _ {b s w : List Row} {h : Totals} {k : Held} (v : held_in b s w h ≡ k) (wf : SketchWf b s w h) {i : ℕ} (l : i < k.totals.wires) where
+  row_offsets : ((wire_of (row_at w i)).out.offset < most_subports) × ((wire_of (row_at w i)).into.offset < most_subports)
+  row_offsets =
+      let e = ap (λ (k : Held). k.totals.wires) v in
+      wf.plan.offsets (wire_of (row_at w i)) (map_member wire_of (row_at w i) (rows_in w h.wires) (row_among w h.wires i (omega arith)))
+
+  pub out_offset : (x : RowEnd) → place_in x ≡ (wire_of (row_at w i)).out → x.offset < most_subports
+  out_offset x p = let r = row_offsets.0 in let e = ap (λ (y : Place). y.offset) p in omega arith
+
+  pub in_offset : (x : RowEnd) → place_in x ≡ (wire_of (row_at w i)).into → x.offset < most_subports
+  in_offset x p = let r = row_offsets.1 in let e = ap (λ (y : Place). y.offset) p in omega arith
 
 module _ (t : List Row) (n : ℕ) (w : Walk) (k : Option ℕ) where
   module _ (e : past k ≡ newest_hit (hits w.test) t w.low (min w.high n)) where
@@ -120,26 +129,14 @@ one_or_more c = go (eqb c 0) refl
     go true t = let z = eqb-true c 0 t in omega arith
     go false t = let z = eqb-false c 0 t in omega (arith, z)
 
-module _ (K : Plan) (w : SubportWalk) {n : ℕ} (e : n ≡ ports_on_side K.blocks w.port.block w.port.side) where
-  pub subports_end : n ≤ w.port.position → None ≡ next_subport K w
-  unfolding next_subport
-  subports_end l = rw (le-leb (ports_on_side K.blocks w.port.block w.port.side) w.port.position (omega arith))
-
-  module _ (l : w.port.position < n) {c : ℕ} (k : Knows K w.port c) where
-    pub subports_here : w.offset < c → Some (end# w.port w.offset, record { port = w.port; offset = w.offset + 1 }) ≡ next_subport K w
-    unfolding next_subport
-    subports_here h =
-        let a = k.count in
-        rw (lt-leb (ports_on_side K.blocks w.port.block w.port.side) w.port.position (omega arith), lt-ltb w.offset (offset_count (subports_of K w.port)) (omega arith), add-one w.offset)
-
-    pub subports_on : c ≤ w.offset → w.port.position + 1 < n →
-        (Some (end# (port_on w.port.block w.port.side (w.port.position + 1)) 0, record { port = port_on w.port.block w.port.side (w.port.position + 1); offset = 1 })) ≡ next_subport K w
-    unfolding next_subport
-    subports_on h q =
-        let a = k.count in
-        rw (
-          lt-leb (ports_on_side K.blocks w.port.block w.port.side) w.port.position (omega arith),
-          le-ltb w.offset (offset_count (subports_of K w.port)) (omega arith),
-          lt-leb (ports_on_side K.blocks w.port.block w.port.side) (suc w.port.position) (omega arith),
-          add-one w.port.position,
-        )
+pub subports_on : (K : Plan) (w : SubportWalk) {n : ℕ} → n ≡ ports_on_side K.blocks w.port.block w.port.side → w.port.position < n → {c : ℕ} → Knows K w.port c → c ≤ w.offset → w.port.position + 1 < n →
+    (Some (end# (port_on w.port.block w.port.side (w.port.position + 1)) 0, record { port = port_on w.port.block w.port.side (w.port.position + 1); offset = 1 })) ≡ next_subport K w
+unfolding next_subport
+subports_on K w e l k h q =
+    let a = k.count in
+    rw (
+      lt-leb (ports_on_side K.blocks w.port.block w.port.side) w.port.position (omega arith),
+      le-ltb w.offset (offset_count (subports_of K w.port)) (omega arith),
+      lt-leb (ports_on_side K.blocks w.port.block w.port.side) (suc w.port.position) (omega arith),
+      add-one w.port.position,
+    )

@@ -56,7 +56,7 @@ impl Sketch {
     }
 
     // Gives a block other counts; each wire at a dropped position goes.
-    #[tactic(auto, unfolding(crate::specs::PlanCalls::set_counts), using(crate::specs::BlockSteps::resized_unknown, crate::specs::BlockSteps::resized_no_room, crate::specs::BlockSteps::resized, crate::specs::Held::seen_as, crate::specs::Held::back))]
+    #[tactic(auto, unfolding(crate::specs::PlanCalls::set_counts), using(crate::specs::BlockSteps::resized_unknown, crate::specs::BlockSteps::resized_no_room, crate::specs::Held::seen_as, crate::specs::Held::back))]
     pub fn resize(&mut self, name: u32, incoming: u32, outgoing: u32) -> Result<(), Reason>
         ensures { Left done_numbers (set_counts (plan_of self.old) name incoming outgoing) self.new result }
     {

@@ -37,7 +37,7 @@ impl Sketch {
     }
 
     // Cuts each wire at a port, which is no longer split; it answers itself if it was, else the far port.
-    #[tactic(auto, unfolding(crate::specs::Plan::far_from, crate::specs::Plan::is_there, crate::specs::PlanCalls::cut_port, port_tables::specs::Places::at_spot), using(crate::specs::CutSteps::port_answered, crate::specs::CutSteps::cut_unknown, crate::specs::CutSteps::cut_room, crate::specs::CutSteps::cut_unsplit, crate::specs::CutSteps::cut_split, crate::specs::Held::seen_as, crate::specs::Held::back))]
+    #[tactic(auto, unfolding(crate::specs::Plan::is_there), using(crate::specs::CutSteps::cut_unknown, crate::specs::CutSteps::cut_room, crate::specs::Held::seen_as, crate::specs::Held::back))]
     pub fn cut(&mut self, port: SketchPort) -> Result<Option<SketchPort>, Reason>
         ensures { Left cut_numbers (cut_port (plan_of self.old) port) self.new result }
     {
@@ -63,7 +63,7 @@ impl Sketch {
     }
 
     // Cuts the wire at an end, if there is one.
-    #[tactic(auto, unfolding(crate::specs::PlanCalls::cut_subport, crate::specs::PlanCalls::subport_link), using(crate::specs::CutSteps::end_cut_refused, crate::specs::CutSteps::end_cut, crate::specs::Held::seen_as, crate::specs::Held::back))]
+    #[tactic(auto, unfolding(crate::specs::PlanCalls::cut_subport, crate::specs::PlanCalls::subport_link), using(crate::specs::CutSteps::end_cut_refused, crate::specs::Held::seen_as, crate::specs::Held::back))]
     pub fn cut_subport(&mut self, end: SketchEnd) -> Result<Option<SketchEnd>, Reason>
         ensures { Left found_numbers (cut_subport (plan_of self.old) end.port end.offset) self.new result }
     {
@@ -74,7 +74,7 @@ impl Sketch {
     }
 
     // Drops the empty subports above the highest wired one; an unsplit port is unchanged.
-    #[tactic(auto, using(crate::specs::CutSteps::tidy_unknown, crate::specs::CutSteps::tidy_unsplit, crate::specs::CutSteps::above_fits, crate::specs::CutSteps::tidy_room, crate::specs::CutSteps::tidy_split, crate::specs::Held::seen_as, crate::specs::Held::back))]
+    #[tactic(auto, using(crate::specs::CutSteps::tidy_unknown, crate::specs::CutSteps::tidy_unsplit, crate::specs::CutSteps::above_fits, crate::specs::CutSteps::tidy_room, crate::specs::Held::seen_as, crate::specs::Held::back))]
     pub fn tidy(&mut self, port: SketchPort) -> Result<(), Reason>
         ensures { Left done_numbers (tidy_port (plan_of self.old) port) self.new result }
     {

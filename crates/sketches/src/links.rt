@@ -92,7 +92,7 @@ impl Sketch {
     }
 
     // Both ports are made ready, and a wire is laid between them.
-    #[tactic(auto, using(crate::specs::SplitSteps::plan_back, crate::specs::LinkSteps::second_there, crate::specs::LinkSteps::still_room, crate::specs::LinkSteps::ends_apart, crate::specs::LinkSteps::both_linked_lem))]
+    #[tactic(auto, using(crate::specs::SplitSteps::plan_back, crate::specs::LinkSteps::both_there, crate::specs::LinkSteps::still_room, crate::specs::LinkSteps::ends_apart))]
     fn link_both(&mut self, x: SketchPort, y: SketchPort) -> (SketchEnd, SketchEnd)
         requires { Linkable self.old.blocks self.old.splits self.old.wires self.old.totals x y }
         ensures { Left link_numbers (both_linked (plan_of self.old) x y) self.new (Ok result) }

@@ -29,7 +29,7 @@ pub fn no_entry() -> SheetEntry
 
 impl Sketch {
     // Links the ports of each entry, and gives it its answer.
-    #[tactic(auto, unfolding(crate::specs::PlanCalls::sheet_answered, crate::specs::PlanCalls::sheet_plan), using(crate::specs::SheetSteps::too_long, crate::specs::SheetSteps::sheeting_ends))]
+    #[tactic(auto, unfolding(crate::specs::PlanCalls::sheet_answered, crate::specs::PlanCalls::sheet_plan), using(crate::specs::SheetSteps::too_long))]
     pub fn link_sheet(&mut self, entries: &mut [SheetEntry]) -> Result<(), TooManyEntries>
         ensures { SheetLeaves (plan_of self.old) entries.old self.new entries.new result }
     {

@@ -54,7 +54,7 @@ fn subports_ready(subports: u32, offset: usize) -> u32
 
 impl Sketch {
     // Makes a port ready, and gives the end that it is then.
-    #[tactic(auto, unfolding(crate::specs::Plan::is_there, crate::specs::Plan::ready), using(crate::specs::SplitSteps::ready_offset, crate::specs::SplitSteps::ready_room, crate::specs::SplitSteps::port_ready, crate::specs::SplitSteps::plan_seen_as, crate::specs::Held::back))]
+    #[tactic(auto, unfolding(crate::specs::Plan::is_there), using(crate::specs::SplitSteps::ready_offset, crate::specs::SplitSteps::ready_room, crate::specs::Held::back))]
     pub(crate) fn ready_port(&mut self, port: SketchPort) -> SketchEnd
         requires { is_there (plan_of self.old) port ≡ true }
         ensures is { IsPlan (ready (plan_of self.old) port) self.new.blocks self.new.splits self.new.wires self.new.totals }

@@ -21,21 +21,11 @@ use Rattle.portgraph.specs.TableLaws.{length_put, at_put_same, at_put_other}
 use Rattle.portgraph.specs.PlaceLaws.{meta_of_node, node_of_meta}
 use Rattle.port_tables.specs.declared.node_entry.NodeMeta.{NodeMeta}
 use Rattle.portgraph.specs.declared.portgraph.PortGraph.{PortGraph}
-use Rattle.port_tables.specs.Listing.{Apart, apart_below, member_left, member_right, member_append, member_flat_map, flat_map_member, member_map, map_member, range_member, range_rises, rising_append, rising_flat_map, rising_map}
+use Rattle.port_tables.specs.Listing.{Apart, once_apart, rising_once, apart_below, member_left, member_right, member_append, member_flat_map, flat_map_member, member_map, map_member, range_member, range_rises, rising_append, rising_flat_map, rising_map}
 use Rattle.slots.specs.Blocks.{Holder, by_node, free, SlotBlock, slot_block, node_holds, held_blocks, chained, free_of, listed_free, free_blocks, blocks_of, holder_number, size_of, holder_of_block, laid, sizes_laid, holders_laid, slot_list}
 use Rattle.slots.specs.SlotClaims.{InBlock, SlotsAccounted, SlotsListed}
 use Rattle.slots.specs.TileLaws.{walk_tiles, walk_gives, tiles_rise, tiles_add}
 use Rattle.port_tables.specs.TableSteps.{at_inside, at_outside}
-
--- Lists without repeats.
-
-pub once_apart : {A : Type 0} (l : List A) → Once l → Rising Apart l
-once_apart [] u = tt
-once_apart (x ∷ l) u = ((λ y i e. u.0 (subst (λ z. Member z l) (sym e) i)), once_apart l u.1)
-
-pub apart_once : {A : Type 0} (l : List A) → Rising Apart l → Once l
-apart_once [] u = tt
-apart_once (x ∷ l) u = ((λ i. u.0 x i refl), apart_once l u.1)
 
 -- Free lists.
 
@@ -52,11 +42,6 @@ chained_is t h (b ∷ l) (suc n) c k =
 -- A number that each block lays at its first slot is read there, if blocks with one first slot lay the same.
 
 module _ (f : SlotBlock → ℕ) where
-  length_laid : (l : List SlotBlock) (t : List ℕ) → length (laid f l t) ≡ length t
-  unfolding laid
-  length_laid [] t = refl
-  length_laid (b ∷ l) t = length_laid l (put t b.first (f b)) ∙ length_put t b.first (f b)
-
   laid_keeps : (l : List SlotBlock) (t : List ℕ) (s v : ℕ) → length t ≡ port_slots → s < port_slots → ((c : SlotBlock) → Member c l → c.first ≡ s → f c ≡ v) → at t s ≡ v → at (laid f l t) s ≡ v
   unfolding laid
   laid_keeps [] t s v long small same e = e
@@ -237,7 +222,7 @@ module _ {g : PortGraph} {M : Model} (good : Good M) (holds : Holds g M) where
 
   blocks_once : Once (blocks_of g)
   blocks_once =
-      apart_once (blocks_of g)
+      rising_once Apart (λ b e. e refl) (blocks_of g)
       (rising_append Apart (held_blocks g) (free_blocks g) held_once free_once
       (λ x y i j e. held_is_held x i (ap (λ (z : SlotBlock). holder_number z.holder) e ∙ free_is_free y j)))
 

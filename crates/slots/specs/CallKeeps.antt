@@ -1,48 +1,42 @@
 -- Every call of the multiport graph keeps the blocks: it is made of calls of the single-link graph, each of which does. A new call is its
 -- row in step_leads.
-use Rattle.std.specs.Prelude.{◌≡◌, Bool, true, false, cond, List, [], ◌∷◌, ℕ, zero, suc, ◌+◌, ltb, Option, Some, None, Ok, Err, Result}
+use Rattle.std.specs.Prelude.{◌≡◌, Bool, true, false, cond, List, [], ◌∷◌, ℕ, zero, suc, ◌+◌, ltb, Ok, Err, Result}
 use Rattle.std.proofs.Math.Path.{refl, transport}
 use Rattle.std.proofs.Common.{sym, ap, ◌∙◌, subst, ltb-true}
 use Rattle.port_tables.specs.Limits.{present}
-use Rattle.portgraph.specs.Lookups.{meta_at, num_ports}
+use Rattle.portgraph.specs.Lookups.{num_ports}
 use Rattle.portgraph.specs.Model as model
 use Rattle.portgraph.specs.Model.{Model, slot_of}
-use Rattle.portgraph.specs.Calls.{add_node, link_ports, unlink_port}
+use Rattle.portgraph.specs.Calls.{add_node, link_ports}
 use Rattle.portgraph.specs.Resize.{set_num_ports}
 use Rattle.port_tables.specs.declared.direction.Direction.{Direction}
 use Rattle.portgraph.specs.declared.portgraph.PortGraph.{PortGraph}
-use Rattle.multiportgraph.specs.Reading.{is_split, has_link, seen, side_of, copy_node, subports, subport_at, port_of, far_port, as_read, standing, far_subport}
-use Rattle.multi_tables.specs.Forms.{Port, dead, hidden, visible, subport#}
+use Rattle.multiportgraph.specs.Reading.{is_split, has_link, copy_node, subports, subport_at, port_of, far_port}
 use Rattle.multiportgraph.specs.Graph.{with_graph}
 use Rattle.multiportgraph.specs.Tidy.{subports_left, drop_subports, link_directly, tidied}
 use Rattle.multiportgraph.specs.TidyLaws.{left_within, within_is}
-use Rattle.multiportgraph.specs.Cases.{tidy_seen}
-use Rattle.multiportgraph.specs.CaseLaws.{tidy_cases}
+use Rattle.multiportgraph.specs.Cases.{link_refused}
+use Rattle.multiportgraph.specs.CaseLaws.{add_cases, link_taken, link_clean_taken, link_sub_taken}
+use Rattle.theorems.specs.CallCases.{remove_each, set_each, link_each, clean_each, link_sub_each, cut_each, cut_sub_each, tidy_each}
+use Rattle.multi_tables.specs.declared.answers.Refusal.{Refusal}
 use Rattle.multiportgraph.specs.WellFormed.{Fine, Seen}
 use Rattle.multiportgraph.specs.Ends.{BlockPort, Hangs, block_seen, split_has_copy}
-use Rattle.multiportgraph.specs.declared.multiportgraph.PortTidied.{PortTidied}
 use Rattle.multiportgraph.specs.HiddenNodes.{remove_copy, unsplit, unsplit_range, remove_lone, remove_all, recounted, copies_dropped, Prepared, ready, full, copy_incoming, copy_outgoing, split_graph, split_port, split_by, split_under, lowest_free, more_incoming, more_outgoing, enough, grown_by, grow_under, reuse_under, prepare_under, prepare}
-use Rattle.multiportgraph.specs.Refusals.{Line, checked, add_refusals, remove_refusals, set_refusals, link_refusals, link_clean_refusals, link_sub_refusals, cut_refusals, subport_refusals, prepared_graph, first_end, second_end, input_taken, end_of, joining}
-use Rattle.multiportgraph.specs.Calls.{add_block_under, added_as, remove_block, drop_block, drop_meta, set_counts_under, resized_meta, set_as, link_pair_if, link_clean_if, both_linked, link_sub_if, joined, cut_port, cut_plain, cut_sub, tidy_port}
+use Rattle.multiportgraph.specs.Refusals.{input_taken}
+use Rattle.multiportgraph.specs.Calls.{drop_block, link_pair_if, link_clean_if, link_sub_if, tidy_port}
 use Rattle.multiportgraph.specs.declared.multiportgraph.MultiPortGraph.{MultiPortGraph}
-use Rattle.multi_tables.specs.declared.answers.SubportIndex.{SubportIndex}
 use Rattle.multiportgraph.specs.declared.multiportgraph.NodeAdded.{NodeAdded}
-use Rattle.multiportgraph.specs.declared.multiportgraph.NodeRemoved.{NodeRemoved}
-use Rattle.multiportgraph.specs.declared.multiportgraph.PortsSet.{PortsSet}
 use Rattle.multiportgraph.specs.declared.multiportgraph.PortsLinked.{PortsLinked}
-use Rattle.multiportgraph.specs.declared.multiportgraph.PortUnlinked.{PortUnlinked}
 use Rattle.theorems.specs.Book as book
 use Rattle.theorems.specs.Book.{Call}
 use Rattle.theorems.specs.History.{step}
 use Rattle.slots.specs.KeptLaws.{LeadsOn, leads_same, leads_then, leads_add, leads_remove, leads_link, leads_unlink, leads_set}
 use Rattle.port_tables.specs.declared.node_entry.NodeMeta.{NodeMeta}
 use Rattle.portgraph.specs.declared.alloc.AddError.TheVariants as add_error
-use Rattle.portgraph.specs.declared.portgraph.LinkError.TheVariants as link_error
 use Rattle.portgraph.specs.declared.resize.SetError.TheVariants as set_error
 use Rattle.port_tables.specs.declared.index.NodeIndex.{NodeIndex}
 use Rattle.port_tables.specs.declared.index.PortIndex.{PortIndex}
 use Rattle.portgraph.specs.declared.alloc.AddError.{AddError}
-use Rattle.portgraph.specs.declared.portgraph.LinkError.{LinkError}
 use Rattle.portgraph.specs.declared.resize.SetError.{SetError}
 
 abbrev pub Leads : MultiPortGraph → MultiPortGraph → Type 0
@@ -80,10 +74,6 @@ all_lead (c ∷ l) m = leads_then (copy_leads m _ c) (all_lead l (remove_lone m 
 abbrev PreparedOn : MultiPortGraph → Prepared → Type 0
 PreparedOn m full = Unit {0}
 PreparedOn m (ready m' q o) = Leads m m'
-
-prepared_leads : (m : MultiPortGraph) (v : Prepared) → PreparedOn m v → Leads m (prepared_graph m v)
-prepared_leads m full p = stays m
-prepared_leads m (ready m' q o) p = p
 
 split_leads : (m : MultiPortGraph) (p : ℕ) (d : Direction) → PreparedOn m (split_under present m p d)
 unfolding split_under split_port split_graph
@@ -127,65 +117,39 @@ prepare_leads m p d = go (is_split m p) (has_link m.graph p)
     go false true = split_leads m p d
     go false false = stays m
 
--- Calls: a refusal of the table, or what is done.
+-- the graph after an end that is prepared
+ready_leads : (m : MultiPortGraph) (p : ℕ) (d : Direction) {m' : MultiPortGraph} {x o : ℕ} → prepare m p d ≡ ready m' x o → Leads m m'
+ready_leads m p d e = subst (PreparedOn m) e (prepare_leads m p d)
 
-either : {A : Type 0} (P : A → Type 0) (b : Bool) (x y : A) → P x → P y → P (cond b x y)
-either P true x y p q = p
-either P false x y p q = q
-
-abbrev Each : (Line → Type 0) → List Line → Type 0
-Each P [] = Unit {0}
-Each P (l ∷ lines) = P l × Each P lines
-
-checked_leads : {A : Type 0} (P : A → Type 0) (lines : List Line) (refused : Line → A) (done : A) → Each (λ l. P (refused l)) lines → P done → P (checked lines refused done)
-checked_leads P [] refused done each last = last
-checked_leads P (l ∷ lines) refused done each last = either P l.applies _ _ each.0 (checked_leads P lines refused done each.1 last)
-
-abbrev link_refused : Line → PortsLinked
-link_refused l = record { graph = l.leaves; answer = Err l.refusal }
-
-abbrev cut_refused : Line → PortUnlinked
-cut_refused l = record { graph = l.leaves; answer = Err l.refusal }
+-- Calls.
 
 module _ (m : MultiPortGraph) where
-  first_leads : (a : ℕ) → Leads m (prepared_graph m (first_end present m a))
-  first_leads a = prepared_leads m (first_end present m a) (prepare_leads m a _)
-
-  second_leads : (a b : ℕ) → Leads m (prepared_graph m (second_end present m a b))
-  second_leads a b = go (first_end present m a) (prepare_leads m a _)
-    where
-      go : (v : Prepared) → PreparedOn m v → Leads m (prepared_graph m (prepare_under present (prepared_graph m v) b (side_of (seen m b))))
-      go v h = after (prepared_graph m v) (prepared_leads m v h) (prepare_under present (prepared_graph m v) b (side_of (seen m b))) (prepare_leads (prepared_graph m v) b (side_of (seen m b)))
-        where
-          after : (m₁ : MultiPortGraph) → Leads m m₁ → (u : Prepared) → PreparedOn m₁ u → Leads m (prepared_graph m u)
-          after m₁ h full k = stays m
-          after m₁ h (ready m₂ q o) k = leads_then h k
-
-  both_lead : (a b : ℕ) → Leads m (both_linked present m a b).graph
-  both_lead a b = leads_then (second_leads a b) (leads_link _ _ _)
-
-  drop_leads : (n : ℕ) (v : Option NodeMeta) → Leads m (drop_meta m n v)
+  drop_leads : (n : ℕ) (k : NodeMeta) → Leads m (drop_block m n k)
   unfolding drop_block
-  drop_leads n None = stays m
-  drop_leads n (Some k) = leads_then (range_leads (k.incoming + k.outgoing) m k.first_port.0) (leads_remove _ n)
+  drop_leads n k = leads_then (range_leads (k.incoming + k.outgoing) m k.first_port.0) (leads_remove _ n)
 
-  resize_leads : (n i o : ℕ) (g : PortGraph) (v : Option NodeMeta) → LeadsOn m.graph g → Leads m (resized_meta m n i o g v)
+  resize_leads : (n i o room : ℕ) (k : NodeMeta) → Leads m (remove_all (recounted m n (set_num_ports m.graph n i o room).graph) (copies_dropped m k i o))
   unfolding recounted
-  resize_leads n i o g None h = stays m
-  resize_leads n i o g (Some k) h = leads_then h (all_lead (copies_dropped m k i o) (recounted m n g))
+  resize_leads n i o room k = leads_then (leads_set m.graph n i o room) (all_lead (copies_dropped m k i o) (recounted m n (set_num_ports m.graph n i o room).graph))
 
-  joined_leads : (s t : SubportIndex) (v : Result (PortIndex × PortIndex) LinkError) (g : PortGraph) → LeadsOn m.graph g → Leads m (joined m v g s t).graph
-  joined_leads s t (Ok (x, y)) g h = h
-  joined_leads s t (Err (link_error.UnknownPort x)) g h = stays m
-  joined_leads s t (Err (link_error.UnknownSecondPort y)) g h = stays m
-  joined_leads s t (Err (link_error.IncompatibleDirections x y d)) g h = stays m
-  joined_leads s t (Err (link_error.AlreadyLinked x)) g h = stays m
+  -- without 18,
+  link_leads : (a b : ℕ) → Leads m (link_pair_if false present m a b).graph
+  link_leads a b =
+      link_each m (λ v. Leads m v.graph) a b (λ z w. stays m) (λ n d s m₁ x o g z w. ready_leads m a d g)
+      (λ n d s k e t m₁ x o g m₂ y r h. let both = leads_then (ready_leads m a d g) (ready_leads m₁ b e h) in ((λ z w. both), leads_then both (leads_link _ _ _)))
+
+  -- and with it
+  taken_leads : (link : Bool → PortsLinked) {z : Refusal} → link true ≡ link_refused m z → Leads m (link false).graph → (taken : Bool) → Leads m (link taken).graph
+  taken_leads link e h true = subst (λ (v : PortsLinked). Leads m v.graph) (sym e) (stays m)
+  taken_leads link e h false = h
 
   pub direct_leads : (p : ℕ) (d : Direction) → Leads m (link_directly m p d)
   unfolding link_directly
-  direct_leads p d =
-      either (Leads m) (has_link m.graph (subport_at m p d 0)) (with_graph (unsplit m p) (link_ports (unsplit m p).graph p (far_port m.graph (subport_at m p d 0))).graph) (unsplit m p)
-      (leads_then (unsplit_leads m p) (leads_link _ _ _)) (unsplit_leads m p)
+  direct_leads p d = go (has_link m.graph (subport_at m p d 0))
+    where
+      go : (b : Bool) → Leads m (cond b (with_graph (unsplit m p) (link_ports (unsplit m p).graph p (far_port m.graph (subport_at m p d 0))).graph) (unsplit m p))
+      go true = leads_then (unsplit_leads m p) (leads_link _ _ _)
+      go false = unsplit_leads m p
 
 module _ {m : MultiPortGraph} {M : Model} (f : Fine m M) where
   -- a tidied port: its hidden node is resized within its block, or goes
@@ -205,55 +169,21 @@ module _ {m : MultiPortGraph} {M : Model} (f : Fine m M) where
       go false e = direct_leads m (slot_of M.node x) x.side
 
   tidy_leads : (p : ℕ) → Leads m (tidy_port m p).graph
-  tidy_leads p = subst (λ (v : PortTidied). Leads m v.graph) (sym (tidy_cases m p)) (go (seen m p) refl)
+  tidy_leads p = tidy_each m (λ v. Leads m v.graph) p (λ z w. stays m) (λ n d e. marks n d (block_seen f p n d e))
     where
       marks : (n : ℕ) (d : Direction) → BlockPort m M p n d → (b : Bool) → is_split m p ≡ b → Leads m (cond b (tidied m p d) m)
       marks n d b true e = transport (λ i. Leads m (tidied m (b.slot i) (b.side i))) (tidied_leads b.place b.is_seen (ap (is_split m) b.slot ∙ e))
       marks n d b false e = stays m
 
-      go : (s : Port) → seen m p ≡ s → Leads m (tidy_seen m p s).graph
-      go dead e = stays m
-      go hidden e = stays m
-      go (visible n d) e = marks n d (block_seen f p n d e) (is_split m p) refl
-
   pub step_leads : (c : Call) → Leads m (step m c).graph
-  unfolding add_block_under remove_block set_counts_under link_pair_if link_clean_if link_sub_if cut_port cut_sub
-  step_leads (book.add_call i o) =
-      checked_leads (λ (v : NodeAdded). Leads m v.graph) (add_refusals present m i o) (λ l. record { graph = l.leaves; answer = Err l.refusal })
-      (record { graph = with_graph m (add_node m.graph i o).graph; answer = added_as (add_node m.graph i o).answer })
-      (stays m, (stays m, tt)) (leads_add m.graph i o)
-  step_leads (book.remove_call n) =
-      checked_leads (λ (v : NodeRemoved). Leads m v.graph) (remove_refusals m n) (λ l. record { graph = l.leaves; answer = Err l.refusal })
-      (record { graph = drop_meta m n (meta_at m.graph n); answer = Ok tt })
-      (stays m, (stays m, tt)) (drop_leads m n (meta_at m.graph n))
-  step_leads (book.set_call n i o room) =
-      checked_leads (λ (v : PortsSet). Leads m v.graph) (set_refusals present m n i o room) (λ l. record { graph = l.leaves; answer = Err l.refusal })
-      (record {
-        graph = resized_meta m n i o (set_num_ports m.graph n i o room).graph (meta_at m.graph n);
-        answer = set_as (set_num_ports m.graph n i o room).answer;
-      })
-      (stays m, (stays m, (stays m, (stays m, (stays m, tt))))) (resize_leads m n i o _ (meta_at m.graph n) (leads_set m.graph n i o room))
-  step_leads (book.link_call a b) =
-      checked_leads (λ (v : PortsLinked). Leads m v.graph) (link_refusals (input_taken m a b) present m a b) link_refused (both_linked present m a b)
-      (stays m, (stays m, (stays m, (stays m, (stays m, (first_leads m a, (second_leads m a b, tt))))))) (both_lead m a b)
+  step_leads (book.add_call i o) = subst (λ (v : NodeAdded). Leads m v.graph) (sym (add_cases present m i o)) (leads_add m.graph i o)
+  step_leads (book.remove_call n) = remove_each m (λ v. Leads m v.graph) n (λ z w. stays m) (λ k h. drop_leads m n k)
+  step_leads (book.set_call n i o room) = set_each m (λ v. Leads m v.graph) n i o room (λ z w. stays m) (λ k e h q. resize_leads m n i o room k)
+  step_leads (book.link_call a b) = taken_leads m (λ t. link_pair_if t present m a b) (link_taken present m a b) (link_leads m a b) (input_taken m a b)
   step_leads (book.link_clean_call a b) =
-      checked_leads (λ (v : PortsLinked). Leads m v.graph) (link_clean_refusals (input_taken m a b) present m a b) link_refused (both_linked present m a b)
-      (stays m, (stays m, (stays m, (stays m, (stays m, (stays m, (stays m, tt))))))) (both_lead m a b)
+      taken_leads m (λ t. link_clean_if t present m a b) (link_clean_taken present m a b) (clean_each m (λ v. Leads m v.graph) a b (λ z w. stays m) (link_leads m a b)) (input_taken m a b)
   step_leads (book.link_sub_call p o q r) =
-      checked_leads (λ (v : PortsLinked). Leads m v.graph) (link_sub_refusals (input_taken m p q) m p o q r) link_refused
-      (joined m (joining m p o q r) (link_ports m.graph (end_of m p o) (end_of m q r)).graph (as_read m p o) (as_read m q r))
-      (stays m, (stays m, (stays m, (stays m, (stays m, (stays m, (stays m, (stays m, (stays m, (stays m, (stays m, tt)))))))))))
-      (joined_leads m (as_read m p o) (as_read m q r) (joining m p o q r) _ (leads_link m.graph (end_of m p o) (end_of m q r)))
-  step_leads (book.cut_call p) =
-      checked_leads (λ (v : PortUnlinked). Leads m v.graph) (cut_refusals m p) cut_refused
-      (cond (is_split m p) (record { graph = unsplit m p; answer = Ok (Some (subport# p 0, standing m (subport# p 0))) })
-      (record { graph = with_graph m (unlink_port m.graph p).graph; answer = cut_plain m (unlink_port m.graph p).answer }))
-      (stays m, (stays m, tt))
-      (either (λ (v : PortUnlinked). Leads m v.graph) (is_split m p) (record { graph = unsplit m p; answer = Ok (Some (subport# p 0, standing m (subport# p 0))) })
-      (record { graph = with_graph m (unlink_port m.graph p).graph; answer = cut_plain m (unlink_port m.graph p).answer })
-      (unsplit_leads m p) (leads_unlink m.graph p))
-  step_leads (book.cut_sub_call p o) =
-      checked_leads (λ (v : PortUnlinked). Leads m v.graph) (subport_refusals m p o) cut_refused
-      (record { graph = with_graph m (unlink_port m.graph (end_of m p o)).graph; answer = far_subport m (unlink_port m.graph (end_of m p o)).answer })
-      (stays m, (stays m, (stays m, (stays m, tt)))) (leads_unlink m.graph (end_of m p o))
+      taken_leads m (λ t. link_sub_if t m p o q r) (link_sub_taken m p o q r) (link_sub_each m (λ v. Leads m v.graph) p o q r (λ z w. stays m) (λ x y. leads_link m.graph x y)) (input_taken m p q)
+  step_leads (book.cut_call p) = cut_each m (λ v. Leads m v.graph) p (λ z w. stays m) (unsplit_leads m p) (leads_unlink m.graph p)
+  step_leads (book.cut_sub_call p o) = cut_sub_each m (λ v. Leads m v.graph) p o (λ z w. stays m) (λ x. leads_unlink m.graph x)
   step_leads (book.tidy_call p) = tidy_leads p

@@ -36,14 +36,12 @@ use Rattle.files.specs.declared.load.LoadError.{LoadError}
 use Rattle.slots.specs.Blocks.{Holder, by_node, free, slot_block, blocks_of, slot_list}
 use Rattle.slots.specs.SlotClaims.{Cut, cut_of, cuts_of, SlotsAccounted, SlotsListed, OneForOne, HangsOn, AsksOnly, NeverForPorts, FreedSince, empty_room, works_along}
 use Rattle.slots.specs.SlotHistory.{Item, one_call, whole_sheet, one_load, after_item, after_items, in_hand, after_calls}
+use Rattle.multiportgraph.specs.CallSteps.{lower_wf}
 use Rattle.slots.specs.TileLaws.{tiles_cuts, cuts_go_on}
 use Rattle.slots.specs.BlockLaws.{slots_accounted, slots_listed, in_blocks}
 use Rattle.slots.specs.KeptLaws.{KeepsBlocks, LeadsOn, leads_same, leads_then}
 use Rattle.slots.specs.CallKeeps.{step_leads}
 use Rattle.slots.specs.FreedLaws.{never_for_ports, along, freed_is_free}
-
-lower : (m : MultiPortGraph) → MultiWf m → Wf m.graph
-lower m w = record { model = w.model; good = w.fine.good; holds = w.fine.holds }
 
 -- Any graph of the calls.
 
@@ -117,7 +115,7 @@ calls_kept [] m w = w
 calls_kept (c ∷ l) m w = calls_kept l (step m c).graph (step_kept m c w)
 
 pub blocks_go_on : (m : MultiPortGraph) → MultiWf m → (l : List Call) → (more : List Cut) × (cuts_of (after_calls m l).graph ≡ cuts_of m.graph ++ more)
-blocks_go_on m w l = cuts_go m.graph (after_calls m l).graph (listed m w) (listed (after_calls m l) (calls_kept l m w)) (calls_lead l m w (lower m w)).1
+blocks_go_on m w l = cuts_go m.graph (after_calls m l).graph (listed m w) (listed (after_calls m l) (calls_kept l m w)) (calls_lead l m w (lower_wf m w)).1
 
 -- A block that is listed as free is found; and one that no node holds any more is.
 
@@ -127,7 +125,7 @@ free_found m w first size i c = never_for_ports w.fine c first size (in_blocks w
 pub unheld_found : (m : MultiPortGraph) → MultiWf m → (l : List Call) (first size : ℕ) (h : Holder) → Member (slot_block first size h) (blocks_of m.graph) →
     ((n : ℕ) → Member (slot_block first size (by_node n)) (blocks_of (after_calls m l).graph) → ⊥) → (c : Call) → AsksOnly (after_calls m l) c size → NeverForPorts (after_calls m l) c
 unheld_found m w l first size h i none c only =
-    let k = (calls_lead l m w (lower m w)).1 (slot_block first size h) i in
+    let k = (calls_lead l m w (lower_wf m w)).1 (slot_block first size h) i in
     go k.0 k.1
   where
     go : (h : Holder) → Member (slot_block first size h) (blocks_of (after_calls m l).graph) → NeverForPorts (after_calls m l) c

@@ -145,9 +145,6 @@ pub record Listing (whole rest : List SlotBlock) (l₀ l : List listed.SlotBlock
   pub counted : count + length rest ≡ length whole
   pub same : sets l count (map block_told rest) ≡ sets l₀ 0 (map block_told whole)
 
-pub listing_begun : (whole : List SlotBlock) (l : List listed.SlotBlock) → Listing whole whole l l 0
-listing_begun whole l = record { counted = omega arith; same = refl }
-
 listing_on : {whole rest : List SlotBlock} {l₀ l l' : List listed.SlotBlock} {count : ℕ} (b : SlotBlock) → Listing whole (b ∷ rest) l₀ l count → l' ≡ set l count (block_told b) → Listing whole rest l₀ l' (count + 1)
 listing_on {whole} {rest} {l₀} {l} {l'} {count} b x e =
     let c = x.counted in

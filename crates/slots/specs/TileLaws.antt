@@ -9,35 +9,24 @@ use native.Mathlib.Omega.{arith}
 use Rattle.std.proofs.Math.Dec.{eqb, leb}
 use borrow.Author.Tests.{ltb-true, ltb-false, leb-true, leb-false, eqb-true, eqb-false}
 use Rattle.port_tables.specs.Lists.{Member, Once, Rising}
+use Rattle.port_tables.specs.Listing.{map_member}
 use Rattle.port_tables.specs.Tables.{at}
 use Rattle.slots.specs.Blocks.{Holder, by_node, free, SlotBlock, slot_block, holder_number, holder_of, walk_blocks}
 use Rattle.slots.specs.SlotClaims.{InBlock, Tiles, Cut, cut_of, TilesCut, sizes_total}
 
 -- End to end.
 
-tiles_not_back : (from to : ℕ) (l : List SlotBlock) → Tiles from l to → from ≤ to
-tiles_not_back from to [] t = omega (arith, t)
-tiles_not_back from to (b ∷ l) t = let h = tiles_not_back (from + b.size) to l t.2 in omega arith
+cuts_beyond : (from to : ℕ) (l : List Cut) → TilesCut from l to → (c : Cut) → Member c l → from ≤ c.first
+cuts_beyond from to [] t b i = absurd i
+cuts_beyond from to (c ∷ l) t b (inl e) = let p = t.0 in let q = ap (λ (x : Cut). x.first) e in omega arith
+cuts_beyond from to (c ∷ l) t b (inr i) = let h = cuts_beyond (from + c.size) to l t.2 b i in omega arith
 
-pub tiles_beyond : (from to : ℕ) (l : List SlotBlock) → Tiles from l to → (b : SlotBlock) → Member b l → from ≤ b.first
-tiles_beyond from to [] t b i = absurd i
-tiles_beyond from to (c ∷ l) t b (inl e) = let p = t.0 in let q = ap (λ (x : SlotBlock). x.first) e in omega arith
-tiles_beyond from to (c ∷ l) t b (inr i) = let h = tiles_beyond (from + c.size) to l t.2 b i in omega arith
+pub tiles_cuts : (from to : ℕ) (l : List SlotBlock) → Tiles from l to → TilesCut from (map cut_of l) to
+tiles_cuts from to [] t = t
+tiles_cuts from to (b ∷ l) t = (t.0, t.1, tiles_cuts (from + b.size) to l t.2)
 
-pub tiles_some : (from to : ℕ) (l : List SlotBlock) → Tiles from l to → (b : SlotBlock) → Member b l → 0 < b.size
-tiles_some from to [] t b i = absurd i
-tiles_some from to (c ∷ l) t b (inl e) = let p = t.1 in let q = ap (λ (x : SlotBlock). x.size) e in omega arith
-tiles_some from to (c ∷ l) t b (inr i) = tiles_some (from + c.size) to l t.2 b i
-
-pub tiles_within : (from to : ℕ) (l : List SlotBlock) → Tiles from l to → (b : SlotBlock) → Member b l → b.first + b.size ≤ to
-tiles_within from to [] t b i = absurd i
-tiles_within from to (c ∷ l) t b (inl e) =
-    let p = t.0 in
-    let q = ap (λ (x : SlotBlock). x.first) e in
-    let r = ap (λ (x : SlotBlock). x.size) e in
-    let h = tiles_not_back (from + c.size) to l t.2 in
-    omega arith
-tiles_within from to (c ∷ l) t b (inr i) = tiles_within (from + c.size) to l t.2 b i
+tiles_beyond : (from to : ℕ) (l : List SlotBlock) → Tiles from l to → (b : SlotBlock) → Member b l → from ≤ b.first
+tiles_beyond from to l t b i = cuts_beyond from to (map cut_of l) (tiles_cuts from to l t) (cut_of b) (map_member cut_of b l i)
 
 -- every slot between lies in one of them
 pub tiles_cover : (from to : ℕ) (l : List SlotBlock) → Tiles from l to → (s : ℕ) → from ≤ s → s < to → (b : SlotBlock) × Member b l × InBlock b s
@@ -56,6 +45,7 @@ tiles_rise from to (b ∷ l) t = (
   tiles_rise (from + b.size) to l t.2,
 )
 
+-- so each is there once
 pub tiles_once : (from to : ℕ) (l : List SlotBlock) → Tiles from l to → Once l
 tiles_once from to [] t = tt
 tiles_once from to (b ∷ l) t = (
@@ -69,11 +59,6 @@ tiles_add from to [] t = let e : from ≡ to = t in omega arith
 tiles_add from to (b ∷ l) t = let h = tiles_add (from + b.size) to l t.2 in omega arith
 
 -- Two lists of cuts end to end from one slot on: where each of the first is one of the second, the second goes on where the first ends.
-
-cuts_beyond : (from to : ℕ) (l : List Cut) → TilesCut from l to → (c : Cut) → Member c l → from ≤ c.first
-cuts_beyond from to [] t b i = absurd i
-cuts_beyond from to (c ∷ l) t b (inl e) = let p = t.0 in let q = ap (λ (x : Cut). x.first) e in omega arith
-cuts_beyond from to (c ∷ l) t b (inr i) = let h = cuts_beyond (from + c.size) to l t.2 b i in omega arith
 
 pub cuts_go_on : (from to later : ℕ) (l k : List Cut) → TilesCut from l to → TilesCut from k later → ((c : Cut) → Member c l → Member c k) → (more : List Cut) × (k ≡ l ++ more)
 cuts_go_on from to later [] k t u h = (k, refl)
@@ -98,10 +83,6 @@ cuts_go_on from to later (c ∷ l) (d ∷ k) t u h =
         let q = u.0 in
         let g = ap (λ (x : Cut). x.first) e in
         omega arith
-
-pub tiles_cuts : (from to : ℕ) (l : List SlotBlock) → Tiles from l to → TilesCut from (map cut_of l) to
-tiles_cuts from to [] t = t
-tiles_cuts from to (b ∷ l) t = (t.0, t.1, tiles_cuts (from + b.size) to l t.2)
 
 -- Every slot in one block.
 

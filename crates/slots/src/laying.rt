@@ -40,6 +40,7 @@ impl Laid {
     }
 
     // Lays the block that a node holds, if it is live and has one.
+    #[tactic(auto, using(crate::specs::LaySteps::node_block))]
     fn lay_node(&mut self, nodes: &[NodeSlot; NODE_SLOTS], node: u32)
         requires { node < node_slots }
         ensures { LaysBoth (node_holds node (meta_in nodes.now node)) self.old.sizes self.old.holders self.new.sizes self.new.holders }
@@ -55,6 +56,7 @@ impl Laid {
 
     // Lays the blocks that the nodes of a table hold.
     // Over the numbers: `meta_in` reads a node by its number.
+    #[tactic(auto, using(crate::specs::LaySteps::range_done))]
     pub(crate) fn lay_nodes(&mut self, nodes: &[NodeSlot; NODE_SLOTS])
         ensures { LaysBoth (taken_in nodes.now) self.old.sizes self.old.holders self.new.sizes self.new.holders }
     {
@@ -64,6 +66,7 @@ impl Laid {
     }
 
     // Lays the blocks of a free list, from its head on. The head and each link are one higher than the slot, 0 for none, as the tables have them.
+    #[tactic(auto, using(crate::specs::LaySteps::list_done, crate::specs::LaySteps::list_out))]
     fn lay_list(&mut self, links: &[u32; PORT_SLOTS], head: u32, size: u32)
         ensures { LaysBoth (list_from links.now head size port_slots) self.old.sizes self.old.holders self.new.sizes self.new.holders }
     {
@@ -78,6 +81,7 @@ impl Laid {
     }
 
     // Lays the blocks of all free lists. Over the sizes: they begin with 1, and each is told to its list.
+    #[tactic(auto, using(crate::specs::LaySteps::range_done))]
     pub(crate) fn lay_lists<'a>(
         &mut self,
         links: &'a [u32; PORT_SLOTS],

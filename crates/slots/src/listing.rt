@@ -31,6 +31,7 @@ fn node_of(number: u32) -> Option<NodeIndex>
 
 // Walks what is laid from slot 0 on, until no size is; answers how many blocks there are.
 // Stays a range: of what `iter_mut` lends, a proof keeps what was written only where every place is gone through, and this walk stops before.
+#[tactic(auto, using(crate::specs::LaySteps::laid_inside, crate::specs::LaySteps::walk_done, crate::specs::LaySteps::walk_out))]
 fn walk(laid: &Laid, list: &mut [SlotBlock; PORT_SLOTS]) -> usize
     ensures { (result ≡ length (walk_blocks laid.now.sizes laid.now.holders 0 port_slots))
         × (list.new ≡ sets list.old 0 (map block_told (walk_blocks laid.now.sizes laid.now.holders 0 port_slots))) }
@@ -53,6 +54,7 @@ fn walk(laid: &Laid, list: &mut [SlotBlock; PORT_SLOTS]) -> usize
 }
 
 // Lists the blocks of a single-link graph.
+#[tactic(auto, using(crate::specs::LaySteps::laid_all, crate::specs::LaySteps::listed_so))]
 fn list_in(graph: &PortGraph, list: &mut [SlotBlock; PORT_SLOTS]) -> usize
     ensures { (result ≡ length (list_in graph.now.node_meta graph.now.port_link graph.now.port_free))
         × (list.new ≡ sets list.old 0 (map block_told (list_in graph.now.node_meta graph.now.port_link graph.now.port_free))) }

@@ -28,7 +28,8 @@ use Rattle.port_tables.specs.declared.index.PortIndex.{PortIndex}
 -- Adding a block.
 
 module _ {m : MultiPortGraph} {M : Model} (f : Fine m M) (incoming outgoing : ℕ) where
-  add_is : (a b c : Bool) → leb (incoming + outgoing) node_ports ≡ a → slot_room M ≡ b → block_room M (incoming + outgoing) ≡ c →
+  -- what it does, by what it finds
+  pub add_is : (a b c : Bool) → leb (incoming + outgoing) node_ports ≡ a → slot_room M ≡ b → block_room M (incoming + outgoing) ≡ c →
       add_block m incoming outgoing
       ≡ record {
         graph = with_graph m (add_where m.graph M incoming outgoing a b c).graph;

@@ -1,9 +1,9 @@
 -- What the calls on wires answer is what the book has: a link answers the ends of the wire that it enters, and a cut or a question
 -- answers the other end of the wire at the end named.
 -- Statements: link_answers_the_wire, answers_are_wires, linked_ends_are_found; their words stand first.
-use Rattle.std.specs.Prelude.{◌≡◌, Bool, true, false, cond, List, ◌∷◌, ℕ, ◌+◌, ◌<◌, Option, Some, None, Result, Ok, Err}
+use Rattle.std.specs.Prelude.{◌≡◌, Bool, true, false, cond, List, ◌∷◌, ℕ, Option, Some, None, Result, Ok, Err}
 use Rattle.std.proofs.Math.Path.{refl, sym, ap}
-use Rattle.std.proofs.Common.{◌∙◌, subst, inl, inr, arith, lt-ltb}
+use Rattle.std.proofs.Common.{◌∙◌, subst, inl, arith, lt-ltb}
 use Rattle.port_tables.specs.Lists.{Member}
 use Rattle.portgraph.specs.Lookups.{port_link}
 use Rattle.port_tables.specs.Entries.{port#}
@@ -19,48 +19,34 @@ use Rattle.multiportgraph.specs.Reading.{is_split, side_of, end_at, as_read, sub
 use Rattle.multi_tables.specs.Forms.{Port, subport#}
 use Rattle.multi_tables.specs.EndAnswers.{unplaced}
 use Rattle.multiportgraph.specs.Refusals.{end_of, inner_port}
-use Rattle.multiportgraph.specs.Calls.{link_pair, link_sub, subport_link, cut_plain, cut_port}
+use Rattle.multiportgraph.specs.Calls.{subport_link, cut_plain, cut_port}
 use Rattle.multiportgraph.specs.CaseLaws.{subport_link_cases}
 use Rattle.multiportgraph.proofs.CutLaws.{cut_cases}
-use Rattle.port_tables.specs.Places.{Place, Wire, spot, wire_of_sides, next_offset}
+use Rattle.port_tables.specs.Places.{Place, Wire, wire_of_sides, next_offset}
 use Rattle.multiportgraph.specs.Wires.{place_of}
-use Rattle.multiportgraph.specs.WellFormed.{Fine, Seen, lift, outer, IsEnd, WireIn, SameBlocks, HasEnd}
-use Rattle.multiportgraph.specs.Ends.{BlockPort, EndOf, end_of_unsplit, other_side, block_seen, seen_block, outer_seen, outer_apart, outer_side, ends_join_ends, end_read, place_of_sub, subport_of_lem, subport_is}
-use Rattle.multiportgraph.specs.LinkCutLaws.{LinkSubDone, LinkSubSays, link_sub_law}
+use Rattle.multiportgraph.specs.WellFormed.{Fine, Seen, lift, outer, IsEnd, WireIn, HasEnd}
+use Rattle.multiportgraph.specs.Ends.{BlockPort, EndOf, end_of_unsplit, block_seen, seen_block, outer_seen, outer_apart, outer_side, ends_join_ends, end_read, place_of_sub, subport_of_lem, subport_is, seen_still, wire_at}
 use Rattle.multiportgraph.specs.SplitLaws.{end_of_wire}
 use Rattle.multiportgraph.specs.declared.multiportgraph.MultiPortGraph.{MultiPortGraph}
 use Rattle.multi_tables.specs.declared.answers.SubportIndex.{SubportIndex}
-use Rattle.multiportgraph.specs.declared.multiportgraph.PortsLinked.{PortsLinked}
 use Rattle.multiportgraph.specs.declared.multiportgraph.PortUnlinked.{PortUnlinked}
-use Rattle.theorems.specs.Book.{Call, Book, spot_of, add_wire, read_by}
+use Rattle.theorems.specs.Book.{Call, Book, spot_of, add_wire}
 use Rattle.theorems.specs.History.{State, next, run}
 use Rattle.theorems.specs.Claims.{Link, by_ports, by_ports_clean, by_subports, linking, LinkedBy}
-use Rattle.theorems.specs.LinkLaw.{LinkDone, link_done_law}
-use Rattle.theorems.proofs.LinkCleanCall.{clean_is_link, clean_next, clean_done_law}
-use Rattle.theorems.proofs.WireRule.{Rel, OneMore, ports_link, subports_link, seen_live, spot_of_lem, offset_of_lem}
-use Rattle.theorems.proofs.CallLaws.{rel_step, rel_run}
+use Rattle.theorems.specs.LinkLaw.{LinkDone, link_done_law, end_of_sides, far_of_sides}
+use Rattle.theorems.proofs.LinkCleanCall.{clean_done_law}
+use Rattle.theorems.proofs.WireRule.{Rel, OneMore, ports_link, subports_link, spot_at, lowest}
+use Rattle.theorems.proofs.CallLaws.{rel_step, rel_run, one_more_wire}
 use Rattle.theorems.specs.ListedLinks.{end_named_lem}
-use Rattle.theorems.specs.AnswerClaims.{wire_between, AnswersItsWire, PortOfBlock, EndThere, SubportThere, asked, cut_answer, EndsFound, AsksTheBook, cut_far, CutsTheBook, AnswersAreWires}
+use Rattle.theorems.specs.AnswerClaims.{wire_between, AnswersItsWire, PortOfBlock, EndThere, SubportThere, asked, cut_answer, EndsFound, AsksTheBook, cut_far, CutsTheBook, AnswersAreWires, first_named, second_named}
 use Rattle.port_tables.specs.declared.index.PortIndex.{PortIndex}
 use Rattle.portgraph.specs.declared.portgraph.NoSuchPort.{NoSuchPort}
 use Rattle.multi_tables.specs.declared.answers.Refusal.{Refusal}
 use Rattle.multiportgraph.specs.LowerSteps.{link_cut}
+use Rattle.theorems.proofs.LinkSubCall.{link_sub_done}
+use Rattle.theorems.specs.PortCases.{free_unless}
 
 -- Places after a link.
-
--- a port of a block stands where it stood
-module _ {m : MultiPortGraph} {M : Model} {m' : MultiPortGraph} {M' : Model} (f : Fine m M) (f' : Fine m' M') (same : SameBlocks m M m' M')
-    (x : model.InnerPlace) (s : Seen m M x) where
-  node_after : M'.node x.node ≡ M.node x.node
-  node_after = let k = seen_live f x s in (same.0 x.node k.0 k.1).1 ∙ sym k.1.1
-
-  slot_after : slot_of M'.node x ≡ slot_of M.node x
-  slot_after = ap (λ (t : Slots). first_of t + (side_start t x.side + x.pos)) node_after
-
-  seen_after : Seen m' M' x
-  seen_after =
-      let k = seen_live f x s in
-      (subst (λ (t : Slots). x.pos < count_of t x.side) (sym node_after) s.0, (same.0 x.node k.0 k.1).0)
 
 pub place_at : {m : MultiPortGraph} {M : Model} → Fine m M → (x : model.InnerPlace) → Seen m M x → (p o : ℕ) → slot_of M.node x ≡ p → place_of m (subport# p o) ≡ lift x o
 place_at {m} f x s p o at = ap (λ (q : ℕ). place_of m (subport# q o)) (sym at) ∙ place_of_sub f x o s
@@ -69,12 +55,12 @@ module _ {m : MultiPortGraph} {M : Model} {B : Book} (r : Rel m M B) {m' : Multi
   first_place_lem : place_of m' s ≡ lift l.x o
   first_place_lem =
       ap (place_of m') l.first_read
-      ∙ place_at l.fine l.x (seen_after r.fine l.fine l.blocks l.x l.first_seen) a o (slot_after r.fine l.fine l.blocks l.x l.first_seen ∙ l.first_at)
+      ∙ place_at l.fine l.x (seen_still r.fine l.fine l.blocks l.x l.first_seen).0 a o ((seen_still r.fine l.fine l.blocks l.x l.first_seen).1 ∙ l.first_at)
 
   second_place_lem : place_of m' t ≡ lift l.y e
   second_place_lem =
       ap (place_of m') l.second_read
-      ∙ place_at l.fine l.y (seen_after r.fine l.fine l.blocks l.y l.second_seen) b e (slot_after r.fine l.fine l.blocks l.y l.second_seen ∙ l.second_at)
+      ∙ place_at l.fine l.y (seen_still r.fine l.fine l.blocks l.y l.second_seen).0 b e ((seen_still r.fine l.fine l.blocks l.y l.second_seen).1 ∙ l.second_at)
 
   first_place_before : place_of m s ≡ place_of m' s
   first_place_before = ap (place_of m) l.first_read ∙ (place_at r.fine l.x l.first_seen a o l.first_at ∙ sym first_place_lem)
@@ -82,69 +68,36 @@ module _ {m : MultiPortGraph} {M : Model} {B : Book} (r : Rel m M B) {m' : Multi
   second_place_before : place_of m t ≡ place_of m' t
   second_place_before = ap (place_of m) l.second_read ∙ (place_at r.fine l.y l.second_seen b e l.second_at ∙ sym second_place_lem)
 
-  first_spot : spot_of B.blocks a ≡ spot l.x.node l.x.side l.x.pos
-  first_spot = ap (spot_of B.blocks) (sym l.first_at) ∙ spot_of_lem r l.x l.first_seen
-
-  second_spot : spot_of B.blocks b ≡ spot l.y.node l.y.side l.y.pos
-  second_spot = ap (spot_of B.blocks) (sym l.second_at) ∙ spot_of_lem r l.y l.second_seen
-
   wire_entered : (i j : ℕ) → i ≡ o → j ≡ e → add_wire B.wires (spot_of B.blocks a) i (spot_of B.blocks b) j ≡ wire_between m' s t ∷ B.wires
   wire_entered i j p q =
-      rw (first_spot, second_spot, p, q) (λ k. wire_of_sides (sym first_place_lem k).side (sym first_place_lem k) (sym second_place_lem k) ∷ B.wires)
+      rw (spot_at r l.x l.first_seen a l.first_at, spot_at r l.y l.second_seen b l.second_at, p, q) (λ k. wire_of_sides (sym first_place_lem k).side (sym first_place_lem k) (sym second_place_lem k) ∷ B.wires)
 
--- the book's lowest unwired offset of a port is the graph's
-lowest : {m : MultiPortGraph} {M : Model} {B : Book} → Rel m M B → (x : model.InnerPlace) (p o : ℕ) → Seen m M x → slot_of M.node x ≡ p →
-    ((i : ℕ) → i < o → (w : Wire) × WireIn m M w × HasEnd w (lift x i)) → ((w : Wire) → WireIn m M w → HasEnd w (lift x o) → ⊥) →
-    next_offset B.wires (spot_of B.blocks p) ≡ o
-lowest {m} {M} {B} r x p o s at lower free =
-    ap (next_offset B.wires) (ap (spot_of B.blocks) (sym at) ∙ spot_of_lem r x s) ∙ offset_of_lem r x o lower free
+-- a wire of two ports enters the book at the lowest unwired offsets
+ports_entered : {m : MultiPortGraph} {M : Model} {B : Book} (r : Rel m M B) {m' : MultiPortGraph} {a b : ℕ} {s t : SubportIndex} → LinkDone m M m' a b s t →
+    add_wire B.wires (spot_of B.blocks a) (next_offset B.wires (spot_of B.blocks a)) (spot_of B.blocks b) (next_offset B.wires (spot_of B.blocks b)) ≡ wire_between m' s t ∷ B.wires
+ports_entered r {a = a} {b = b} d =
+    wire_entered r (ports_link d) _ _ (lowest r d.x a d.o d.first_seen d.first_at d.first_lower d.first_none)
+    (lowest r d.y b d.r d.second_seen d.second_at d.second_lower d.second_none)
 
 -- Links.
 
-link_sub_done : {m : MultiPortGraph} {M : Model} → Fine m M → (p o q t : ℕ) (x y : SubportIndex) → (link_sub m p o q t).answer ≡ Ok (x, y) →
-    LinkSubDone m M (link_sub m p o q t).graph p o q t x y
-link_sub_done {m} {M} f p o q t x y h = subst (LinkSubSays m M p o q t (link_sub m p o q t).graph) h (link_sub_law f p o q t)
-
-pair_answers_its_wire : (s : State) (M : Model) → Rel s.graph M s.book → (a b : ℕ) (x y : SubportIndex) → LinkedBy s (by_ports a b) x y →
-    AnswersItsWire s (by_ports a b) x y
-pair_answers_its_wire s M r a b x y h =
-    let d : LinkDone s.graph M (link_pair s.graph a b).graph a b x y = link_done_law r.fine a b x y h in
-    let l : OneMore s.graph M (link_pair s.graph a b).graph a d.o b d.r x y = ports_link d in
+answers_so : (s : State) {M : Model} → Rel s.graph M s.book → (c : Link) {o e : ℕ} {x y : SubportIndex} → OneMore s.graph M (next s (linking c)).graph (first_named c) o (second_named c) e x y →
+    (next s (linking c)).book.wires ≡ wire_between (next s (linking c)).graph x y ∷ s.book.wires → AnswersItsWire s c x y
+answers_so s r c l entered =
     record {
-      first = ap (λ (u : SubportIndex). u.port.0) d.first_read;
-      second = ap (λ (u : SubportIndex). u.port.0) d.second_read;
-      wire =
-          rw h
-          (wire_entered r l _ _
-          (lowest r d.x a d.o d.first_seen d.first_at d.first_lower d.first_none)
-          (lowest r d.y b d.r d.second_seen d.second_at d.second_lower d.second_none));
+      first = ap (λ (u : SubportIndex). u.port.0) l.first_read;
+      second = ap (λ (u : SubportIndex). u.port.0) l.second_read;
+      wire = entered;
       first_place = first_place_before r l;
       second_place = second_place_before r l;
     }
 
 answers_its_wire : (s : State) (M : Model) → Rel s.graph M s.book → (l : Link) (x y : SubportIndex) → LinkedBy s l x y → AnswersItsWire s l x y
-answers_its_wire s M r (by_ports a b) x y h = pair_answers_its_wire s M r a b x y h
-answers_its_wire s M r (by_ports_clean a b) x y h =
-    let e = clean_is_link s.graph a b x y h in
-    let n = sym (clean_next s a b e) in
-    let w = pair_answers_its_wire s M r a b x y (ap (λ (v : PortsLinked). v.answer) (sym e) ∙ h) in
-    record {
-      first = w.first;
-      second = w.second;
-      wire = subst (λ (t : State). t.book.wires ≡ wire_between t.graph x y ∷ s.book.wires) n w.wire;
-      first_place = subst (λ (t : State). place_of s.graph x ≡ place_of t.graph x) n w.first_place;
-      second_place = subst (λ (t : State). place_of s.graph y ≡ place_of t.graph y) n w.second_place;
-    }
+answers_its_wire s M r (by_ports a b) x y h = let d = link_done_law r.fine a b x y h in answers_so s r (by_ports a b) (ports_link d) (rw h (ports_entered r d))
+answers_its_wire s M r (by_ports_clean a b) x y h = let d = clean_done_law r.fine a b x y h in answers_so s r (by_ports_clean a b) (ports_link d) (rw h (ports_entered r d))
 answers_its_wire s M r (by_subports p o q t) x y h =
-    let l : OneMore s.graph M (link_sub s.graph p o q t).graph p (read_by (is_split s.graph p) o) q (read_by (is_split s.graph q) t) x y =
-    subports_link (link_sub_done r.fine p o q t x y h) in
-    record {
-      first = ap (λ (u : SubportIndex). u.port.0) l.first_read;
-      second = ap (λ (u : SubportIndex). u.port.0) l.second_read;
-      wire = rw h (wire_entered r l _ _ refl refl);
-      first_place = first_place_before r l;
-      second_place = second_place_before r l;
-    }
+    let l = subports_link (link_sub_done r.fine p o q t x y h) in
+    answers_so s r (by_subports p o q t) l (rw h (wire_entered r l _ _ refl refl))
 
 -- The wire that an accepted link enters in the book has the two subports answered as its ends, the first named first.
 pub link_answers_the_wire : (release : Release) (calls : List Call) (l : Link) (x y : SubportIndex) → LinkedBy (run release calls) l x y → AnswersItsWire (run release calls) l x y
@@ -212,32 +165,13 @@ module _ {m : MultiPortGraph} {M : Model} (f : Fine m M) {p o : ℕ} (h : EndThe
       go (to y) j = let k = asked_far y j in (y, j, cc)
 
   nothing_link : asked m p o ≡ Ok None → M.join end_meant.end ≡ nowhere
-  nothing_link a = go (M.join end_meant.end) refl
-    where
-      go : (v : Far) → M.join end_meant.end ≡ v → M.join end_meant.end ≡ nowhere
-      go nowhere j = j
-      go (to y) j = let k = asked_far y j in absurd (zero_is_not_one (cc))
+  nothing_link a = free_unless (M.join end_meant.end) (λ y j. let k = asked_far y j in zero_is_not_one (cc))
 
   far_end : (y : model.InnerPlace) → M.join end_meant.end ≡ to y → IsEnd m M y
   far_end y j = ends_join_ends f end_meant.end y end_meant.is_end j
 
 -- links between ends, and wires
 module _ {m : MultiPortGraph} {M : Model} (f : Fine m M) (z : model.InnerPlace) (e : IsEnd m M z) where
-  wire_of_link : (y : model.InnerPlace) → M.join z ≡ to y → WireIn m M (wire_of_sides z.side (outer m M z) (outer m M y))
-  wire_of_link y j = go z.side refl
-    where
-      go : (d : Direction) → z.side ≡ d → WireIn m M (wire_of_sides d (outer m M z) (outer m M y))
-      go Incoming s =
-          record {
-            x = y;
-            y = z;
-            joined = f.good.join_back z y j;
-            outgoing = other_side Incoming y.side (λ c. f.good.join_sides z y j (s ∙ c));
-            end = ends_join_ends f z y e j;
-            is = refl;
-          }
-      go Outgoing s = record { x = z; y = y; joined = j; outgoing = s; end = e; is = refl }
-
   link_of_end_lem : (w : Wire) → WireIn m M w → HasEnd w (outer m M z) → (y : model.InnerPlace) × (M.join z ≡ to y)
   link_of_end_lem w h a =
       let k = end_of_wire f w (outer m M z) h a in
@@ -250,15 +184,6 @@ module _ {m : MultiPortGraph} {M : Model} (f : Fine m M) (z : model.InnerPlace) 
   link_of_wire Outgoing P h =
       let q : h.x ≡ z = outer_apart f h.x z h.end e (sym (ap (λ (v : Wire). v.out) h.is)) in
       (h.y, ap M.join (sym q) ∙ h.joined, ap (λ (v : Wire). v.into) h.is)
-
--- a wire of two ends has them
-first_of_wire : (d : Direction) (P Q : Place) → HasEnd (wire_of_sides d P Q) P
-first_of_wire Incoming P Q = inr refl
-first_of_wire Outgoing P Q = inl refl
-
-second_of_wire : (d : Direction) (P Q : Place) → HasEnd (wire_of_sides d P Q) Q
-second_of_wire Incoming P Q = inl refl
-second_of_wire Outgoing P Q = inr refl
 
 -- an end as answered is there,
 subport_there : {m : MultiPortGraph} {M : Model} → Fine m M → (y : model.InnerPlace) → IsEnd m M y → SubportThere m (subport_of m (slot_of M.node y))
@@ -307,7 +232,7 @@ module _ {m : MultiPortGraph} {M : Model} {B : Book} (r : Rel m M B) {p o : ℕ}
   found_booked t a =
       let k = found_link r.fine h t a in
       r.wires.walks (wire_between m (as_read m p o) t)
-      (subst (WireIn m M) (wire_asked k.0 k.1 t k.2) (wire_of_link r.fine meant meant_is k.0 k.1))
+      (subst (WireIn m M) (wire_asked k.0 k.1 t k.2) (wire_at r.fine meant k.0 meant_is k.1))
 
   found_there_lem : (t : SubportIndex) → asked m p o ≡ Ok (Some t) → SubportThere m t
   found_there_lem t a =
@@ -344,8 +269,8 @@ module _ {m : MultiPortGraph} {M : Model} {B : Book} (r : Rel m M B) {p o : ℕ}
       go (to y) j =
           let w = wire_of_sides meant.side (outer m M meant) (outer m M y) in
           absurd
-          (none w (r.wires.walks w (wire_of_link r.fine meant meant_is y j))
-          (subst (HasEnd w) (sym (place_meant r.fine h)) (first_of_wire meant.side (outer m M meant) (outer m M y))))
+          (none w (r.wires.walks w (wire_at r.fine meant y meant_is j))
+          (subst (HasEnd w) (sym (place_meant r.fine h)) (end_of_sides meant.side (outer m M meant) (outer m M y))))
 
   found_back_lem : (t : SubportIndex) → asked m p o ≡ Ok (Some t) → asked m t.port.0 t.subport_offset ≡ Ok (Some (as_read m p o))
   found_back_lem t a =
@@ -507,16 +432,14 @@ more_there : {m : MultiPortGraph} {M : Model} {m' : MultiPortGraph} {a o b e : �
 more_there {m} {M} {m'} {a} {o} {b} {e} f l =
     let w = l.wires.came _ (inl refl) in (
       subst (SubportThere m') (sym l.first_read)
-          (wired_there l.fine _ w l.x a o (slot_after f l.fine l.blocks l.x l.first_seen ∙ l.first_at) (first_of_wire l.x.side _ _)),
+          (wired_there l.fine _ w l.x a o ((seen_still f l.fine l.blocks l.x l.first_seen).1 ∙ l.first_at) (end_of_sides l.x.side _ _)),
       subst (SubportThere m') (sym l.second_read)
-          (wired_there l.fine _ w l.y b e (slot_after f l.fine l.blocks l.y l.second_seen ∙ l.second_at) (second_of_wire l.x.side _ _)),
+          (wired_there l.fine _ w l.y b e ((seen_still f l.fine l.blocks l.y l.second_seen).1 ∙ l.second_at) (far_of_sides l.x.side _ _)),
     )
 
 ends_there : (s : State) (M : Model) → Fine s.graph M → (l : Link) (x y : SubportIndex) → LinkedBy s l x y →
     SubportThere (next s (linking l)).graph x × SubportThere (next s (linking l)).graph y
-ends_there s M f (by_ports a b) x y h = more_there f (ports_link (link_done_law f a b x y h))
-ends_there s M f (by_ports_clean a b) x y h = more_there f (ports_link (clean_done_law f a b x y h))
-ends_there s M f (by_subports p o q t) x y h = more_there f (subports_link (link_sub_done f p o q t x y h))
+ends_there s M f l x y h = more_there f (one_more_wire s f l x y h).4
 
 -- each end of an accepted link is then found at the other
 linked_found : (s : State) (M : Model) → Rel s.graph M s.book → (l : Link) (x y : SubportIndex) → LinkedBy s l x y → EndsFound (next s (linking l)).graph x y

@@ -1,10 +1,10 @@
 -- The bundles of all calls, collected; from them, what holds of every call and of every history.
-use Rattle.std.specs.Prelude.{◌≡◌, refl, false, List, [], ◌∷◌, ◌⊎◌, Option, Some, None, Result, Ok, Err}
+use Rattle.std.specs.Prelude.{◌≡◌, refl, false, ℕ, List, [], ◌∷◌, ◌⊎◌, Option, Some, None, Result, Ok, Err}
 use Rattle.std.proofs.Common.{inl, inr, ⊎_elim}
 use Rattle.portgraph.specs.Model.{Model}
 use Rattle.portgraph.specs.GoodLaws.{empty_model}
 use Rattle.theorems.specs.Book as book
-use Rattle.theorems.specs.Book.{Call, AnswerOf, Book, empty_book}
+use Rattle.theorems.specs.Book.{Call, AnswerOf, Book, empty_book, read_by}
 use Rattle.port_tables.specs.declared.release.Release.{Release}
 use Rattle.multiportgraph.specs.WellFormed.{Fine, MultiWf}
 use Rattle.multiportgraph.specs.declared.multiportgraph.MultiPortGraph.{MultiPortGraph}
@@ -15,7 +15,7 @@ use Rattle.multi_tables.specs.declared.answers.Refusal.TheVariants.{NoRoom}
 use Rattle.multiportgraph.specs.Graph.{empty_graph}
 use Rattle.theorems.specs.History.{step, entered, State, next, run_from, run_from_under, run, run_under}
 use Rattle.multiportgraph.specs.LinkCutLaws.{fine_empty}
-use Rattle.theorems.proofs.WireRule.{Rel, rel_start}
+use Rattle.theorems.proofs.WireRule.{Rel, rel_start, OneMore, ports_link, subports_link}
 use Rattle.multiportgraph.specs.Space.{room_of, after_works, overflows, Spaced}
 use Rattle.multiportgraph.specs.SpaceLaws.{room_is}
 use Rattle.theorems.specs.Works.{works_of}
@@ -28,8 +28,11 @@ use Rattle.theorems.proofs.CutCall.{cut_call}
 use Rattle.theorems.proofs.CutSubCall.{cut_sub_call}
 use Rattle.theorems.proofs.TidyCall.{tidy_call}
 use Rattle.theorems.proofs.LinkCall.{link_call}
-use Rattle.theorems.proofs.LinkCleanCall.{link_clean_call}
-use Rattle.theorems.proofs.LinkSubCall.{link_sub_call}
+use Rattle.theorems.proofs.LinkCleanCall.{link_clean_call, clean_done_law}
+use Rattle.theorems.proofs.LinkSubCall.{link_sub_call, link_sub_done}
+use Rattle.theorems.specs.Claims.{Link, by_ports, by_ports_clean, by_subports, linking, LinkedBy}
+use Rattle.theorems.specs.LinkLaw.{link_done_law}
+use Rattle.multiportgraph.specs.Reading.{is_split}
 
 -- an answer is one or the other
 cut_or_refused : (v : Result (Option (SubportIndex × PortPlace)) Refusal) → (((s : SubportIndex) × (x : PortPlace) × (v ≡ Ok (Some (s, x)))) ⊎ (v ≡ Ok None)) ⊎ ((r : Refusal) × (v ≡ Err r))
@@ -90,6 +93,14 @@ module _ {m : MultiPortGraph} {M : Model} (f : Fine m M) where
 -- in the words of the model that the graph after the call stands for
 pub call_room_after : {m : MultiPortGraph} {M N : Model} → Fine m M → (c : Call) → Fine (step m c).graph N → overflows (room_of M) (works_of m c) ≡ false → room_of N ≡ after_works (room_of M) (works_of m c)
 call_room_after f c g e = room_is ((call_space f c).room_after e) g.holds
+
+-- An accepted link of any kind: one wire more, between the ports that it names.
+pub one_more_wire : (s : State) {M : Model} → Fine s.graph M → (c : Link) (x y : SubportIndex) → LinkedBy s c x y →
+    (a : ℕ) × (o : ℕ) × (b : ℕ) × (r : ℕ) × OneMore s.graph M (next s (linking c)).graph a o b r x y
+one_more_wire s f (by_ports a b) x y h = let d = link_done_law f a b x y h in (a, d.o, b, d.r, ports_link d)
+one_more_wire s f (by_ports_clean a b) x y h = let d = clean_done_law f a b x y h in (a, d.o, b, d.r, ports_link d)
+one_more_wire s f (by_subports p o q r) x y h =
+    (p, read_by (is_split s.graph p) o, q, read_by (is_split s.graph q) r, subports_link (link_sub_done f p o q r x y h))
 
 -- Every history.
 

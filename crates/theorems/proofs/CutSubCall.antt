@@ -37,6 +37,14 @@ module _ {m : MultiPortGraph} {M : Model} (f : Fine m M) (p o : ℕ) where
   link_of_is : o ≤ 65534 → (v : Port) → seen m p ≡ v → subport_link m p o ≡ link_of_seen m p o v
   link_of_is h v e = subport_link_cases m p o ∙ rw (lt-ltb o 65535 (omega arith)) (ap (link_of_seen m p o) e)
 
+  -- where the end is there
+  module _ (x : model.InnerPlace) (h : o ≤ 65534) (b : OfBlock m M p x) (u : ℕ) (e : end_at m p x.side o ≡ inner u) where
+    pub cut_sub_there : cut_sub m p o ≡ cut_end m p (inner u)
+    cut_sub_there = cut_sub_is h (visible x.node x.side) (seen_block_port f p x b) ∙ ap (cut_end m p) e
+
+    pub link_of_there : subport_link m p o ≡ link_of_end m p (inner u)
+    link_of_there = link_of_is h (visible x.node x.side) (seen_block_port f p x b) ∙ ap (link_of_end m p) e
+
   pub cut_sub_refuses : (r : Refusal) → SubRefused m M p o r → cut_sub m p o ≡ cut_refused m r
   unfolding cut_sub
   cut_sub_refuses r (sub_offset h) = rw (le-ltb o 65535 (omega arith))
@@ -81,7 +89,7 @@ module _ {m : MultiPortGraph} {M : Model} (f : Fine m M) (p o : ℕ) where
       go (refused_so r c) = subst (λ (v : PortUnlinked). CutSays (SubRefused m M p o) v.answer) (sym (cut_sub_refuses r c)) c
       go (end_there x h b u e) =
           subst (λ (v : PortUnlinked). CutSays (SubRefused m M p o) v.answer)
-          (sym (cut_sub_is h (visible x.node x.side) (seen_block_port f p x b) ∙ ap (cut_end m p) e))
+          (sym (cut_sub_there x h b u e))
           (far_says (unlink_port m.graph u).answer)
 
   pub subport_link_refused : (r : Refusal) → subport_link m p o ≡ Err r → SubRefused m M p o r
@@ -91,7 +99,7 @@ module _ {m : MultiPortGraph} {M : Model} (f : Fine m M) (p o : ℕ) where
       go (refused_so r c) = subst (CutSays (SubRefused m M p o)) (sym (subport_link_refuses r c)) c
       go (end_there x h b u e) =
           subst (CutSays (SubRefused m M p o))
-          (sym (link_of_is h (visible x.node x.side) (seen_block_port f p x b) ∙ ap (link_of_end m p) e))
+          (sym (link_of_there x h b u e))
           (far_says (port_link m.graph u))
 
 module _ {m : MultiPortGraph} {M : Model} (f : Fine m M) where

@@ -6,7 +6,7 @@ use Rattle.portgraph.specs.Model as model
 use Rattle.portgraph.specs.Model.{Model, Far, nowhere, to, Dead}
 use Rattle.portgraph.specs.Calls as lower
 use Rattle.portgraph.specs.Calls.{link_ports}
-use Rattle.portgraph.specs.GoodSlots.{slots_apart, zero_is_not_one}
+use Rattle.portgraph.specs.GoodSlots.{zero_is_not_one}
 use Rattle.portgraph.specs.GoodLaws.{same_side_is}
 use Rattle.portgraph.specs.LinkHolds as lower_laws
 use Rattle.portgraph.specs.declared.portgraph.PortsLinked as lower_ports_linked
@@ -25,12 +25,12 @@ use Rattle.multiportgraph.specs.Graph.{with_graph}
 use Rattle.multiportgraph.specs.Cases.{link_refused, link_inner, link_second_end, link_first_end, link_sub_seen, taken_sub_seen}
 use Rattle.multi_tables.specs.NamedEnds.{taken_first, taken_second}
 use Rattle.multiportgraph.specs.CaseLaws.{link_sub_cases, link_sub_taken}
-use Rattle.multiportgraph.specs.LinkCutLaws.{link_sub_law}
+use Rattle.multiportgraph.specs.LinkCutLaws.{link_sub_law, LinkSubDone, LinkSubSays}
 use Rattle.theorems.proofs.WireRule.{after_link_sub}
 use Rattle.multiportgraph.specs.SpaceLaws.{link_sub_space}
 use Rattle.theorems.specs.Works.{works_of}
 use Rattle.theorems.specs.Conditions.{Lacks, LinkSays, LinkSubRefused, OfBlock, OfHidden, Offsets, PortIs, Taken, block_port, hidden_port, no_port, sub_first_dead, sub_first_hidden, sub_first_lacks, sub_first_linked, sub_offsets, sub_one_side, sub_second_dead, sub_second_hidden, sub_second_lacks, sub_second_linked, sub_wired}
-use Rattle.theorems.specs.PortCases.{end_is_lem, is_end, is_lacking, lacks_is, not_lacking, port_is, seen_block_port, seen_hidden_port, seen_none}
+use Rattle.theorems.specs.PortCases.{end_is_lem, is_end, is_lacking, lacks_is, not_lacking, port_is, seen_block_port, seen_hidden_port, seen_none, not_lacking_there, only_there}
 use Rattle.theorems.specs.TakenLaws.{free_so, so_free, so_taken, taken_so}
 use Rattle.theorems.proofs.CallLaw.{CallLaw, whole}
 use Rattle.theorems.proofs.LinkCall.{block_not_hidden, dead_not_hidden}
@@ -38,6 +38,7 @@ use Rattle.portgraph.specs.declared.portgraph.LinkError.TheVariants as link_erro
 use Rattle.port_tables.specs.declared.index.PortIndex.{PortIndex}
 use Rattle.portgraph.specs.declared.portgraph.LinkError.{LinkError}
 use Rattle.portgraph.specs.Joins.{same_side_false}
+use Rattle.multi_tables.specs.declared.answers.SubportIndex.{SubportIndex}
 
 -- Linking subports.
 
@@ -69,14 +70,6 @@ module _ {m : MultiPortGraph} {M : Model} (f : Fine m M) (p o q r : ℕ) where
       link_sub m p o q r ≡ link_first_end m p o q r (visible y.node y.side) (end_at m p x.side o)
   sub_blocks h free x y s t =
       sub_free free ∙ sub_free_is h (visible x.node x.side) (visible y.node y.side) (seen_block_port f p x s) (seen_block_port f q y t)
-
-  -- an end that is not lacking has an inner port
-  there : (x : model.InnerPlace) → OfBlock m M p x → (Lacks m M x o → ⊥) → (u : ℕ) × (end_at m p x.side o ≡ inner u)
-  there x s n = go (end_at m p x.side o) refl
-    where
-      go : (v : End) → end_at m p x.side o ≡ v → (u : ℕ) × (end_at m p x.side o ≡ inner u)
-      go lacking e = absurd (n (is_lacking f p x o s e))
-      go (inner u) e = (u, e)
 
   module _ (h : Offsets o r) (x y : model.InnerPlace) (u v : ℕ) (s : OfBlock m M p x) (t : OfBlock m M q y) (e : EndOf m M x o u) (g : EndOf m M y r v) (free : Taken m M p q → ⊥) where
     sub_ends : (w : lower_ports_linked.PortsLinked) → link_ports m.graph u v ≡ w → link_sub m p o q r ≡ link_inner m (as_read m p o) (as_read m q r) w.answer w.graph
@@ -145,7 +138,7 @@ module _ {m : MultiPortGraph} {M : Model} (f : Fine m M) (p o q r : ℕ) where
           sub_before h (visible x.node x.side) (visible y.node y.side) (seen_block_port f p x s) (seen_block_port f q y t) _
           (ap (taken_first p (taken_second q (end_at m q y.side r))) (lacks_is f p x o s l)) (ap (link_first_end m p o q r (visible y.node y.side)) (lacks_is f p x o s l))
   link_sub_refuses z (sub_second_lacks h x y s t n l) =
-      let w = there x s n in
+      let w = not_lacking_there f p x o s n in
       sub_before h (visible x.node x.side) (visible y.node y.side) (seen_block_port f p x s) (seen_block_port f q y t) _
       (ap (taken_first p (taken_second q (end_at m q y.side r))) w.1 ∙ ap (taken_second q) (lacks_is f q y r t l))
       (ap (link_first_end m p o q r (visible y.node y.side)) w.1 ∙ ap (link_second_end m p o q r w.0) (lacks_is f q y r t l))
@@ -158,12 +151,12 @@ module _ {m : MultiPortGraph} {M : Model} (f : Fine m M) (p o q r : ℕ) where
       go : PortIs m M q → link_sub_if true m p o q r ≡ link_refused m InputWired
       go (no_port d) =
           sub_taken_is h (visible x.node x.side) dead (seen_block_port f p x s) (seen_none f q d)
-          ∙ ap (λ (v : End). link_refused m (taken_first p InputWired v)) (there x s l).1
+          ∙ ap (λ (v : End). link_refused m (taken_first p InputWired v)) (not_lacking_there f p x o s l).1
       go (hidden_port i) = absurd (n i)
       go (block_port y t) =
           sub_taken_is h (visible x.node x.side) (visible y.node y.side) (seen_block_port f p x s) (seen_block_port f q y t)
-          ∙ (ap (λ (v : End). link_refused m (taken_first p (taken_second q (end_at m q y.side r)) v)) (there x s l).1 ∙ ap (link_refused m) (second y t (end_at m q y.side r) refl))
-  link_sub_refuses z (sub_second_dead h x s d n free) = let w = there x s n in sub_to_none h free x s d ∙ ap (link_first_end m p o q r dead) w.1
+          ∙ (ap (λ (v : End). link_refused m (taken_first p (taken_second q (end_at m q y.side r)) v)) (not_lacking_there f p x o s l).1 ∙ ap (link_refused m) (second y t (end_at m q y.side r) refl))
+  link_sub_refuses z (sub_second_dead h x s d n free) = let w = not_lacking_there f p x o s n in sub_to_none h free x s d ∙ ap (link_first_end m p o q r dead) w.1
   link_sub_refuses z (sub_one_side h x y u v s t e g free k) = sub_ends h x y u v s t e g free _ (one_side h x y u v s t e g free k)
   link_sub_refuses z (sub_first_linked h x y u v s t e g free n k) = sub_ends h x y u v s t e g free _ (first_linked h x y u v s t e g free n k)
   link_sub_refuses z (sub_second_linked h x y u v s t e g free n j k) = sub_ends h x y u v s t e g free _ (second_linked h x y u v s t e g free n j k)
@@ -194,15 +187,11 @@ module _ {m : MultiPortGraph} {M : Model} (f : Fine m M) (p o q r : ℕ) where
       wired h x s n l k rest true e = so _ (sub_wired h x s n l k (so_taken f p q e))
       wired h x s n l k rest false e = rest (so_free f p q e)
 
-      -- one port stands at one place
-      only_there : (x : model.InnerPlace) → OfBlock m M q x → (Lacks m M x r → ⊥) → (y : model.InnerPlace) → OfBlock m M q y → Lacks m M y r → ⊥
-      only_there x s n y t l = n (subst (λ (w : model.InnerPlace). Lacks m M w r) (slots_apart f.good y x t.0.0 s.0.0 (t.1 ∙ sym s.1)) l)
-
       second : Offsets o r → (x y : model.InnerPlace) (u : ℕ) → OfBlock m M p x → OfBlock m M q y → end_at m p x.side o ≡ inner u →
           (w : End) → end_at m q y.side r ≡ w → SubSaid (link_sub m p o q r)
       second h x y u s t e lacking g = so _ (sub_second_lacks h x y s t (not_lacking f p x o u s e) (is_lacking f q y r t g))
       second h x y u s t e (inner v) g =
-          wired h x s (block_not_hidden f q y t) (not_lacking f p x o u s e) (only_there y t (not_lacking f q y r v t g))
+          wired h x s (block_not_hidden f q y t) (not_lacking f p x o u s e) (only_there f q r y t (not_lacking f q y r v t g))
           (λ free. sides h x y u v s t (end_is_lem f p x o u s e) (end_is_lem f q y r v t g) free (same_side x.side y.side) refl) (input_taken m p q) refl
 
       both : Offsets o r → (x y : model.InnerPlace) → OfBlock m M p x → OfBlock m M q y → (w : End) → end_at m p x.side o ≡ w → SubSaid (link_sub m p o q r)
@@ -234,6 +223,9 @@ module _ {m : MultiPortGraph} {M : Model} (f : Fine m M) (p o q r : ℕ) where
   link_sub_refused z e = subst (LinkSays (LinkSubRefused m M p o q r)) e link_sub_says
 
 module _ {m : MultiPortGraph} {M : Model} (f : Fine m M) where
+  pub link_sub_done : (p o q t : ℕ) (x y : SubportIndex) → (link_sub m p o q t).answer ≡ Ok (x, y) → LinkSubDone m M (link_sub m p o q t).graph p o q t x y
+  link_sub_done p o q t x y h = subst (LinkSubSays m M p o q t (link_sub m p o q t).graph) h (link_sub_law f p o q t)
+
   pub link_sub_call : (p o q t : ℕ) → CallLaw m M (book.link_sub_call p o q t)
   unfolding works_of
   link_sub_call p o q t =

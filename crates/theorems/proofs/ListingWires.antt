@@ -7,14 +7,12 @@ use Rattle.std.proofs.Math.Bool.{true, cond}
 use mathlib.Core.List.{List, [], ◌∷◌, map, map-append}
 use Rattle.std.proofs.Math.Dec.{eqb}
 use borrow.Author.Tests.{leb-true, leb-false, le-leb, eq-eqb, eqb-true}
-use Rattle.port_tables.specs.Limits.{node_slots}
-use Rattle.port_tables.specs.Lists.{range, Member, Rising}
+use Rattle.port_tables.specs.Lists.{Member, Rising}
 use Rattle.std.specs.List.{filter}
 use Rattle.portgraph.specs.Model as model
 use Rattle.portgraph.specs.Model.{Model, slot_of}
 use Rattle.port_tables.specs.Entries.{same_side}
 use Rattle.portgraph.specs.GoodSlots.{zero_is_not_one, same_place_lem}
-use Rattle.portgraph.specs.PlaceLaws.{node_of_meta}
 use Rattle.port_tables.specs.declared.direction.Direction.{Direction}
 use Rattle.port_tables.specs.declared.direction.Direction.TheVariants.{Incoming, Outgoing}
 use Rattle.port_tables.specs.declared.sides.Sides.{Sides}
@@ -25,21 +23,20 @@ use Rattle.multiportgraph.specs.Reading.{owner_of, is_hidden, is_split, seen}
 use Rattle.multi_tables.specs.Forms.{Port, dead, hidden, visible, subport#}
 use Rattle.port_tables.specs.Places as places
 use Rattle.port_tables.specs.Places.{Place, Wire, Spot, spot, at_spot, touches, end_on, far_from}
-use Rattle.multiportgraph.specs.Wires.{is_block, blocks, ports_of_side, subports_of_port, subports_of_side, wire_of, side_links, place_of}
+use Rattle.multiportgraph.specs.Wires.{is_block, ports_of_side, subports_of_port, subports_of_side, wire_of, side_links, place_of}
 use Rattle.multiportgraph.specs.Walks.{port_links_seen, port_links, not_skipped, node_links, not_ignored, neighbour_links, neighbours, connections}
 use Rattle.multiportgraph.specs.WellFormed.{inner#, Fine, BlockIs, Seen, lift}
 use Rattle.multiportgraph.specs.Ends.{seen_block, block_seen, ends_join_ends, outer_seen, place_of_sub}
 use Rattle.multiportgraph.specs.LinkCutLaws.{at_spot_here, at_spot_is}
 use Rattle.port_tables.specs.Listing.{Apart, member_filter, filter_member, member_flat_map, flat_map_member, member_map, map_member, rising_filter, rising_map, rising_once}
-use Rattle.multiportgraph.specs.ScanLaws.{block_not_hidden, block_has_meta}
 use Rattle.multiportgraph.specs.declared.multiportgraph.MultiPortGraph.{MultiPortGraph}
 use Rattle.multi_tables.specs.declared.answers.SubportIndex.{SubportIndex}
 use Rattle.multi_tables.specs.declared.answers.SubportLink.{SubportLink}
 use Rattle.theorems.specs.Book.{Call, Block, Book, spot_of}
 use Rattle.theorems.specs.History.{run}
-use Rattle.theorems.proofs.WireRule.{Rel, Right, past_block, spot_of_lem}
+use Rattle.theorems.proofs.WireRule.{Rel, Right, past_block, spot_of_lem, spot_at}
 use Rattle.theorems.proofs.CallLaws.{rel_run}
-use Rattle.theorems.proofs.PortListing.{blocks_list, side_listed, side_has}
+use Rattle.theorems.proofs.PortListing.{side_listed, side_has, is_block_lem, block_at}
 use Rattle.theorems.specs.Cursors.{rising_as}
 use Rattle.theorems.specs.WalkStepLaws.{link_offset, port_links_rise}
 use Rattle.theorems.specs.BlockWalkLaws.{Ahead, block_links_rise}
@@ -84,6 +81,28 @@ module _ {m : MultiPortGraph} {d : Direction} {booked : List Wire} {P : Wire →
             (g.0, filter_member t g.0 l g.1 (back g.0 g.1 (subst Q g.2 p.1)), g.2);
       }
 
+-- where the far end of a listed link stands
+pub record FarEnd (m : MultiPortGraph) (M : Model) (w : SubportLink) : Type 0 where
+  pub at : model.InnerPlace
+  pub offset : ℕ
+  pub is_seen : Seen m M at
+  pub is : w.to ≡ subport# (slot_of M.node at) offset
+  pub port : w.to.port.0 ≡ slot_of M.node at
+  pub place : place_of m w.to ≡ lift at offset
+
+pub far_of_link : {m : MultiPortGraph} {M : Model} (f : Fine m M) (x : model.InnerPlace) (w : SubportLink) → LinkIs m M x w → FarEnd m M w
+far_of_link {m} f x w l =
+    let r = outer_seen f l.y (ends_join_ends f l.z l.y l.end l.joined) in
+    let e = l.far ∙ r.read in
+    record {
+      at = r.main;
+      offset = r.offset;
+      is_seen = r.is_seen;
+      is = e;
+      port = ap (λ (t : SubportIndex). t.port.0) e;
+      place = ap (place_of m) e ∙ place_of_sub f r.main r.offset r.is_seen;
+    }
+
 module _ {m : MultiPortGraph} {M : Model} (f : Fine m M) where
   -- The links of a side of a block.
 
@@ -115,10 +134,6 @@ module _ {m : MultiPortGraph} {M : Model} (f : Fine m M) where
       let s = q.0 in
       let t = q.1 in
       ⊎_elim (λ h. omega arith) (λ h. let u = h.1 in omega arith) a
-
-  is_block_lem : (n : ℕ) (k : NodeMeta) → BlockIs m M n k → is_block m n ≡ true
-  unfolding blocks
-  is_block_lem n k b = (member_filter (is_block m) n (range 0 node_slots) ((blocks_list f).all n k b)).1
 
 module _ {m : MultiPortGraph} {M : Model} {B : Book} (r : Rel m M B) where
   side_lists : (n : ℕ) (k : NodeMeta) → BlockIs m M n k → (d : Direction) → Lists m d B.wires (λ w. (end_on d w).node ≡ n) (side_links m d n)
@@ -169,7 +184,7 @@ module _ {m : MultiPortGraph} {M : Model} {B : Book} (r : Rel m M B) where
       go hidden q = other hidden q (λ c a t. zero_is_not_one (cc))
       go (visible c a) q =
           let k = block_seen r.fine p c a q in
-          let t : spot k.place.node k.place.side k.place.pos ≡ spot n d i = sym (spot_of_lem r k.place k.is_seen) ∙ (ap (spot_of B.blocks) k.slot ∙ e) in
+          let t : spot k.place.node k.place.side k.place.pos ≡ spot n d i = sym (spot_at r k.place k.is_seen p k.slot) ∙ e in
           let z : k.place ≡ inner# n d i = same_place_lem k.place (inner# n d i) (cc) (cc) (cc) in
           (subst (Seen m M) z k.is_seen, ap (slot_of M.node) (sym z) ∙ k.slot)
 
@@ -190,21 +205,13 @@ module _ {m : MultiPortGraph} {M : Model} {B : Book} (r : Rel m M B) where
 
   -- Far ends.
 
-  -- the far end of a listed link, by its port
-  far_port : (x : model.InnerPlace) (w : SubportLink) → LinkIs m M x w → (y : model.InnerPlace) × Seen m M y × (w.to.port.0 ≡ slot_of M.node y) × (place_of m w.to ≡ lift y w.to.subport_offset)
-  far_port x w l =
-      let o = outer_seen r.fine l.y (ends_join_ends r.fine l.z l.y l.end l.joined) in
-      let e : w.to ≡ subport# (slot_of M.node o.main) o.offset = l.far ∙ o.read in
-      let q : w.to.port.0 ≡ slot_of M.node o.main = ap (λ (t : SubportIndex). t.port.0) e in
-      (o.main, o.is_seen, q, ap (λ (p : ℕ). place_of m (subport# p w.to.subport_offset)) q ∙ place_of_sub r.fine o.main w.to.subport_offset o.is_seen)
-
   -- a link is not skipped exactly if its far port is out of the range
   module _ (d : Direction) (lo hi : ℕ) (x : model.InnerPlace) (w : SubportLink) (l : LinkIs m M x w) where
     far_out : not_skipped lo hi w ≡ true → OutOfRange B lo hi (far_from d (wire_from m d w))
     far_out t p e a b =
-        let y = far_port x w l in
-        let q : slot_of M.node y.0 ≡ p = stands_only y.0 w.to.subport_offset p (subst (λ (v : Place). at_spot (spot_of B.blocks p) v ≡ true) (far_end d _ _ ∙ y.3) e) in
-        let z = y.2 in
+        let y = far_of_link r.fine x w l in
+        let q : slot_of M.node y.at ≡ p = stands_only y.at y.offset p (subst (λ (v : Place). at_spot (spot_of B.blocks p) v ≡ true) (far_end d _ _ ∙ y.place) e) in
+        let z = y.port in
         let c : leb hi w.to.port.0 ≡ true = subst (λ (v : Bool). cond v (leb hi w.to.port.0) true ≡ true) (le-leb lo w.to.port.0 (omega arith)) t in
         let h = leb-true hi w.to.port.0 c in
         omega arith
@@ -215,11 +222,11 @@ module _ {m : MultiPortGraph} {M : Model} {B : Book} (r : Rel m M B) where
         go : (a b : Bool) → leb lo w.to.port.0 ≡ a → leb hi w.to.port.0 ≡ b → cond a b true ≡ true
         go true true s t = refl
         go true false s t =
-            let y = far_port x w l in
+            let y = far_of_link r.fine x w l in
             absurd
             (h w.to.port.0
-            (subst (λ (v : Place). at_spot (spot_of B.blocks w.to.port.0) v ≡ true) (sym (far_end d _ _ ∙ y.3))
-            (subst (λ (p : ℕ). at_spot (spot_of B.blocks p) (lift y.0 w.to.subport_offset) ≡ true) (sym y.2) (stands y.0 y.1 w.to.subport_offset)))
+            (subst (λ (v : Place). at_spot (spot_of B.blocks w.to.port.0) v ≡ true) (sym (far_end d _ _ ∙ y.place))
+            (subst (λ (p : ℕ). at_spot (spot_of B.blocks p) (lift y.at y.offset) ≡ true) (sym y.port) (stands y.at y.is_seen y.offset)))
             (leb-true lo _ s) (leb-false hi _ t))
         go false b s t = refl
 
@@ -227,8 +234,8 @@ module _ {m : MultiPortGraph} {M : Model} {B : Book} (r : Rel m M B) where
   module _ (d : Direction) (n : ℕ) (flag : Bool) (x : model.InnerPlace) (w : SubportLink) (l : LinkIs m M x w) where
     far_side : (y : Place) × (far_from d (wire_from m d w) ≡ y) × (seen m w.to.port.0 ≡ visible y.node y.side)
     far_side =
-        let y = far_port x w l in
-        (lift y.0 w.to.subport_offset, far_end d _ _ ∙ y.3, ap (seen m) y.2 ∙ seen_block r.fine y.0 y.1)
+        let y = far_of_link r.fine x w l in
+        (lift y.at y.offset, far_end d _ _ ∙ y.place, ap (seen m) y.port ∙ seen_block r.fine y.at y.is_seen)
 
     kept_not_own : not_ignored m n flag w ≡ true → NotOwnOutput n flag (far_from d (wire_from m d w))
     kept_not_own t e a b =
@@ -309,33 +316,74 @@ module _ {m : MultiPortGraph} {M : Model} {B : Book} (r : Rel m M B) where
       go hidden q = refl
       go (visible n d) q =
           let k = block_seen r.fine p n d q in
-          let t = spot_of_lem r k.place k.is_seen in
-          let z = ap (spot_of B.blocks) k.slot in
+          let t = spot_at r k.place k.is_seen p k.slot in
           absurd (zero_is_not_one (cc))
 
   -- The blocks of the graph are those of the book.
 
   booked_block : (n : ℕ) → is_block m n ≡ true → InBook B n
-  booked_block n b =
-      let k = block_has_meta m n b in
-      r.blocks.all n k.0 (block_not_hidden m n b, node_of_meta r.fine.good r.fine.holds n k.0 k.1)
+  booked_block n b = let k = block_at r.fine n b in r.blocks.all n k.0 k.1
+
+  -- The listings of any graph that goes with a book.
+
+  pub side_listing : (d : Direction) (n : ℕ) → InBook B n → Exactly B.wires (λ w. (end_on d w).node ≡ n) (map (wire_from m d) (side_links m d n))
+  side_listing d n b = let k = block_booked n b in lists_exactly (side_lists n k.0 k.1 d)
+
+  pub port_listing : (p n : ℕ) (d : Direction) (i : ℕ) → spot_of B.blocks p ≡ spot n d i →
+      Exactly B.wires (λ w. touches (at_spot (spot n d i)) w ≡ true) (map (wire_from m d) (port_links m p))
+  port_listing p n d i e =
+      let s = spot_back p n d i e in
+      subst (λ (q : ℕ). Exactly B.wires (λ w. touches (at_spot (spot n d i)) w ≡ true) (map (wire_from m d) (port_links m q))) s.1
+      (lists_exactly (port_lists (inner# n d i) s.0))
+
+  pub node_listing : (n : ℕ) → InBook B n → (sides : Sides) (lo hi : ℕ) →
+      OverSides (λ d l. Exactly B.wires (λ w. ((end_on d w).node ≡ n) × OutOfRange B lo hi (far_from d w)) (map (wire_from m d) l)) sides (node_links m n sides lo hi)
+  unfolding node_links
+  node_listing n b (One d) lo hi = let k = block_booked n b in lists_exactly (node_links_list n k.0 k.1 lo hi d)
+  node_listing n b Both lo hi =
+      let k = block_booked n b in (
+        filter (not_skipped lo hi) (side_links m Incoming n),
+        filter (not_skipped lo hi) (side_links m Outgoing n),
+        filter-append (not_skipped lo hi) (side_links m Incoming n) (side_links m Outgoing n),
+        lists_exactly (node_links_list n k.0 k.1 lo hi Incoming),
+        lists_exactly (node_links_list n k.0 k.1 lo hi Outgoing),
+      )
+
+  pub neighbours_listing : (n : ℕ) → InBook B n → (sides : Sides) (flag : Bool) →
+      OverSides (λ d. FarNodes B.wires (λ w. ((end_on d w).node ≡ n) × NotOwnOutput n flag (far_from d w)) d) sides (neighbours m n sides flag)
+  unfolding neighbours neighbour_links
+  neighbours_listing n b (One d) flag =
+      let k = block_booked n b in
+      (_, lists_exactly (neighbour_links_list n k.0 k.1 flag d), far_nodes m d (filter (not_ignored m n flag) (side_links m d n)))
+  neighbours_listing n b Both flag =
+      let k = block_booked n b in
+      let a = filter (not_ignored m n flag) (side_links m Incoming n) in
+      let c = filter (not_ignored m n flag) (side_links m Outgoing n) in (
+        map (λ (w : SubportLink). owner_of m.graph w.to.port.0) a,
+        map (λ (w : SubportLink). owner_of m.graph w.to.port.0) c,
+        ap (map (λ (w : SubportLink). owner_of m.graph w.to.port.0)) (filter-append (not_ignored m n flag) (side_links m Incoming n) (side_links m Outgoing n))
+            ∙ map-append (λ (w : SubportLink). owner_of m.graph w.to.port.0) a c,
+        (map (wire_from m Incoming) a, lists_exactly (neighbour_links_list n k.0 k.1 flag Incoming), far_nodes m Incoming a),
+        (map (wire_from m Outgoing) c, lists_exactly (neighbour_links_list n k.0 k.1 flag Outgoing), far_nodes m Outgoing c),
+      )
+
+  pub connections_listing : (n k : ℕ) → InBook B n → Exactly B.wires (λ w. (w.out.node ≡ n) × (w.into.node ≡ k)) (map (wire_from m Outgoing) (connections m n k))
+  connections_listing n k b = let a = block_booked n b in lists_exactly (connections_list n a.0 a.1 k)
+
+-- what holds of each side walked holds of a list over sides
+pub over_sides : {A : Type 0} {P Q : Direction → List A → Type 0} → ((d : Direction) (l : List A) → P d l → Q d l) → (sides : Sides) (l : List A) → OverSides P sides l → OverSides Q sides l
+over_sides h (One d) l e = h d l e
+over_sides h Both l e = (e.0, e.1, e.2, h Incoming e.0 e.3, h Outgoing e.1 e.4)
 
 -- 1. The links of a side of a block, either side, are exactly the book's wires with an end on that side of that block, each once.
 pub listings_are_wires_of_side : (release : Release) (calls : List Call) (d : Direction) (n : ℕ) → InBook (run release calls).book n →
     Exactly (run release calls).book.wires (λ w. (end_on d w).node ≡ n) (map (wire_from (run release calls).graph d) (side_links (run release calls).graph d n))
-listings_are_wires_of_side release calls d n b =
-    let r = (rel_run release calls).1 in
-    let k = block_booked r n b in
-    lists_exactly (side_lists r n k.0 k.1 d)
+listings_are_wires_of_side release calls = side_listing (rel_run release calls).1
 
 -- 2. The links of a port of the book, at the spot n, d, i, are exactly the book's wires with an end at that port, each once;
 pub listings_are_wires_of_port : (release : Release) (calls : List Call) (p n : ℕ) (d : Direction) (i : ℕ) → spot_of (run release calls).book.blocks p ≡ spot n d i →
     Exactly (run release calls).book.wires (λ w. touches (at_spot (spot n d i)) w ≡ true) (map (wire_from (run release calls).graph d) (port_links (run release calls).graph p))
-listings_are_wires_of_port release calls p n d i e =
-    let r = (rel_run release calls).1 in
-    let s = spot_back r p n d i e in
-    subst (λ (q : ℕ). Exactly (run release calls).book.wires (λ w. touches (at_spot (spot n d i)) w ≡ true) (map (wire_from (run release calls).graph d) (port_links (run release calls).graph q)))
-    s.1 (lists_exactly (port_lists r (inner# n d i) s.0))
+listings_are_wires_of_port release calls = port_listing (rel_run release calls).1
 
 -- and a number that is no port of the book lists nothing.
 pub listings_are_wires_of_no_port : (release : Release) (calls : List Call) (p : ℕ) → spot_of (run release calls).book.blocks p ≡ places.nowhere → port_links (run release calls).graph p ≡ []
@@ -348,52 +396,18 @@ pub listings_are_wires_of_node : (release : Release) (calls : List Call) (n : �
     OverSides
     (λ d l. Exactly (run release calls).book.wires (λ w. ((end_on d w).node ≡ n) × OutOfRange (run release calls).book lo hi (far_from d w)) (map (wire_from (run release calls).graph d) l))
     sides (node_links (run release calls).graph n sides lo hi)
-unfolding node_links
-listings_are_wires_of_node release calls n b (One d) lo hi =
-    let r = (rel_run release calls).1 in
-    let k = block_booked r n b in
-    lists_exactly (node_links_list r n k.0 k.1 lo hi d)
-listings_are_wires_of_node release calls n b Both lo hi =
-    let r = (rel_run release calls).1 in
-    let k = block_booked r n b in
-    let m = (run release calls).graph in (
-      filter (not_skipped lo hi) (side_links m Incoming n),
-      filter (not_skipped lo hi) (side_links m Outgoing n),
-      filter-append (not_skipped lo hi) (side_links m Incoming n) (side_links m Outgoing n),
-      lists_exactly (node_links_list r n k.0 k.1 lo hi Incoming),
-      lists_exactly (node_links_list r n k.0 k.1 lo hi Outgoing),
-    )
+listings_are_wires_of_node release calls = node_listing (rel_run release calls).1
 
 -- 4. The neighbours of a block over one side or both: on each side walked, one node for each of the book's wires with an end there,
 -- that of the far end; with the flag, wires whose far end is on the block's own outgoing side are left out, and no others.
 pub listings_are_wires_of_neighbours : (release : Release) (calls : List Call) (n : ℕ) → InBook (run release calls).book n → (sides : Sides) (flag : Bool) →
     OverSides (λ d. FarNodes (run release calls).book.wires (λ w. ((end_on d w).node ≡ n) × NotOwnOutput n flag (far_from d w)) d) sides (neighbours (run release calls).graph n sides flag)
-unfolding neighbours neighbour_links
-listings_are_wires_of_neighbours release calls n b (One d) flag =
-    let r = (rel_run release calls).1 in
-    let k = block_booked r n b in
-    (_, lists_exactly (neighbour_links_list r n k.0 k.1 flag d), far_nodes (run release calls).graph d (filter (not_ignored (run release calls).graph n flag) (side_links (run release calls).graph d n)))
-listings_are_wires_of_neighbours release calls n b Both flag =
-    let r = (rel_run release calls).1 in
-    let k = block_booked r n b in
-    let m = (run release calls).graph in
-    let a = filter (not_ignored m n flag) (side_links m Incoming n) in
-    let c = filter (not_ignored m n flag) (side_links m Outgoing n) in (
-      map (λ (w : SubportLink). owner_of m.graph w.to.port.0) a,
-      map (λ (w : SubportLink). owner_of m.graph w.to.port.0) c,
-      ap (map (λ (w : SubportLink). owner_of m.graph w.to.port.0)) (filter-append (not_ignored m n flag) (side_links m Incoming n) (side_links m Outgoing n))
-          ∙ map-append (λ (w : SubportLink). owner_of m.graph w.to.port.0) a c,
-      (map (wire_from m Incoming) a, lists_exactly (neighbour_links_list r n k.0 k.1 flag Incoming), far_nodes m Incoming a),
-      (map (wire_from m Outgoing) c, lists_exactly (neighbour_links_list r n k.0 k.1 flag Outgoing), far_nodes m Outgoing c),
-    )
+listings_are_wires_of_neighbours release calls = neighbours_listing (rel_run release calls).1
 
 -- 5. The connections from one block's outgoing side to another are exactly the book's wires from the one to the other, each once.
 pub listings_are_wires_between : (release : Release) (calls : List Call) (n k : ℕ) → InBook (run release calls).book n →
     Exactly (run release calls).book.wires (λ w. (w.out.node ≡ n) × (w.into.node ≡ k)) (map (wire_from (run release calls).graph Outgoing) (connections (run release calls).graph n k))
-listings_are_wires_between release calls n k b =
-    let r = (rel_run release calls).1 in
-    let a = block_booked r n b in
-    lists_exactly (connections_list r n a.0 a.1 k)
+listings_are_wires_between release calls = connections_listing (rel_run release calls).1
 
 -- The blocks at which walks start are the blocks of the book.
 pub blocks_are_booked : (release : Release) (calls : List Call) (n : ℕ) → (is_block (run release calls).graph n ≡ true) ↔ InBook (run release calls).book n

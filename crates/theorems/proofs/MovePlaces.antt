@@ -3,6 +3,7 @@
 -- A place of the block is a side and a position on it. Dropped places are told first, then places that stay, each with its old and its
 -- new number. `told_events` says it, over the graph before and the graph after the call; `moves_are_places` says that the move list
 -- holds exactly this, before what it held already.
+use Rattle.std.proofs.lemmas.List.{length-map}
 use Rattle.std.specs.Prelude.{◌≡◌, Bool, ltb, length, drop, Option, Some, Ok, Err, Result}
 use Rattle.std.proofs.Math.Path.{refl, sym, ap, subst}
 use Rattle.std.proofs.Common.{◌∙◌, inl, inr, length-append, get_or-set_same}
@@ -45,7 +46,7 @@ use Rattle.multiportgraph.specs.Cases.{resized, set_meta}
 use Rattle.multiportgraph.specs.CaseLaws.{set_cases}
 use Rattle.multiportgraph.specs.WellFormed.{inner#, Fine}
 use Rattle.multiportgraph.specs.Ends.{port_of_lem, far_of, linked_is, unlinked_is}
-use Rattle.multiportgraph.specs.RecountLaws.{Recount, SomeRecount, set_recounts}
+use Rattle.multiportgraph.specs.RecountLaws.{SomeRecount, set_recounts, recount_of}
 use Rattle.multiportgraph.specs.Space.{Room, room_of, block_taken, after_work, after_works, overflows, gone_works, copies_gone, move_works, recount_works, set_meta_works, set_works}
 use Rattle.multiportgraph.specs.SpaceLaws.{after_append, room_is, set_counts_space}
 use Rattle.multiportgraph.specs.SetLaws.{all_go, resize_loosens, resize_tracks, set_counts_law}
@@ -266,15 +267,10 @@ record After (m' : MultiPortGraph) (n : ℕ) (b : NodeMeta) : Type 0 where
 module _ {m : MultiPortGraph} {M : Model} (f : Fine m M) (n : ℕ) (k : NodeMeta) (shown : is_hidden m n ≡ false) (here : M.node n ≡ live k) (i o : ℕ) where
   -- hidden nodes that go leave the block where it is
   after : (g' : PortGraph) → SomeRecount g' M n i o → (b : NodeMeta) → meta_at g' n ≡ Some b → After (graph_after m n k i o g') n b
-  after g' s b e = go s.old s.is.here s.is
-    where
-      go : (a : NodeMeta) → M.node n ≡ live a → Recount g' M s.model' n a s.new i o → After (graph_after m n k i o g') n b
-      go a there r =
-          let same_block : a ≡ k = cc in
-          let r' : Recount g' M s.model' n k s.new i o = subst (λ (c : NodeMeta). Recount g' M s.model' n c s.new i o) same_block r in
-          let z = all_go (copies_dropped m k i o) (resize_loosens f n k shown here i o r') (resize_tracks f n k shown here i o r') in
-          let q : s.model'.node n ≡ live b = node_of_meta r.good r.holds n b e in
-          record { model = z.model'; fine = z.fine; here = z.tracks.here ∙ (sym r.there ∙ q) }
+  after g' s b e =
+      let r = recount_of s k here in
+      let z = all_go (copies_dropped m k i o) (resize_loosens f n k shown here i o r) (resize_tracks f n k shown here i o r) in
+      record { model = z.model'; fine = z.fine; here = z.tracks.here ∙ (sym r.there ∙ node_of_meta r.good r.holds n b e) }
 
   in_table : n < length m.graph.node_meta
   in_table =
@@ -479,10 +475,6 @@ unfolding moved_events
 length_moved g h n [] = refl
 length_moved g h n (x ∷ l) = let r = length_moved g h n l in omega arith
 
-length_ports : (g : PortGraph) (n : ℕ) (l : List PortOffset) → length (map (port_here g n) l) ≡ length l
-length_ports g n [] = refl
-length_ports g n (x ∷ l) = let r = length_ports g n l in omega arith
-
 length_told : (g h : PortGraph) (n i o : ℕ) → length (told_events g h n i o) ≡ 3 * length (told_places g n i o)
 unfolding told_events events_at told_places
 length_told g h n i o =
@@ -490,7 +482,7 @@ length_told g h n i o =
     let k : List PortOffset = kept_places (num_ports g n Incoming) (num_ports g n Outgoing) (node_port_capacity g n) i o in
     let a = length-append (removed_events g [] (map (port_here g n) d)) (moved_events g h n k) in
     let b = length_removed g [] (map (port_here g n) d) in
-    let c = length_ports g n d in
+    let c = length-map d (port_here g n) in
     let r = length_moved g h n k in
     let s = length-append d k in
     omega arith
@@ -565,19 +557,12 @@ module _ {m : MultiPortGraph} {M : Model} (f : Fine m M) (n i o room e : ℕ) (o
 
   copies_are_nodes : (c : ℕ) → Member c (copies_dropped m (old f n i o room e ok) i o) → (k : NodeMeta) × (meta_at m.graph c ≡ Some k)
   unfolding recounted is_hidden
-  copies_are_nodes c h = go s.old s.is.here s.is
-    where
-      s : SomeRecount (set_by m.graph n i o (plan f n i o room e ok)).graph M n i o
-      s = recount f n i o room e ok
-
-      go : (a : NodeMeta) → M.node n ≡ live a → Recount (set_by m.graph n i o (plan f n i o room e ok)).graph M s.model' n a s.new i o → (k : NodeMeta) × (meta_at m.graph c ≡ Some k)
-      go a there r =
-          let is = here f n i o room e ok in
-          let same_block : a ≡ old f n i o room e ok = cc in
-          let r' = subst (λ (b : NodeMeta). Recount (set_by m.graph n i o (plan f n i o room e ok)).graph M s.model' n b s.new i o) same_block r in
-          let l = (resize_loosens f n (old f n i o room e ok) (shown f n i o room e ok) is i o r').loose c h in
-          let k = f.copy c l.0 in
-          (k.meta, meta_of_node f.good f.holds c k.meta k.here)
+  copies_are_nodes c h =
+      let is = here f n i o room e ok in
+      let r = recount_of (recount f n i o room e ok) (old f n i o room e ok) is in
+      let l = (resize_loosens f n (old f n i o room e ok) (shown f n i o room e ok) is i o r).loose c h in
+      let k = f.copy c l.0 in
+      (k.meta, meta_of_node f.good f.holds c k.meta k.here)
 
   pub hidden_go : (N : Model) → Fine (set_counts m n i o room).graph N → N.free_nodes ≡ given_back (hidden_told m n i o) M.free_nodes
   unfolding set_works

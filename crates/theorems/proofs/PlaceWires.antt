@@ -33,9 +33,9 @@ use Rattle.multi_tables.specs.declared.answers.Refusal.TheVariants.{BadOffset}
 use Rattle.multiportgraph.specs.declared.iter.NodeLinks.{NodeLinks}
 use Rattle.multiportgraph.specs.declared.iter.NodeConnections.{NodeConnections}
 use Rattle.multiportgraph.specs.declared.iter.Wires.{Wires}
-use Rattle.theorems.specs.Book.{Call, spot_of}
+use Rattle.theorems.specs.Book.{Call}
 use Rattle.theorems.specs.History.{State, run}
-use Rattle.theorems.proofs.WireRule.{Rel, spot_of_lem}
+use Rattle.theorems.proofs.WireRule.{Rel, spot_at}
 use Rattle.theorems.proofs.CallLaws.{rel_run}
 use Rattle.theorems.specs.AnswerClaims.{wire_between, PortOfBlock, EndThere}
 use Rattle.theorems.proofs.AnswerWires.{place_at, asked_linked, asked_far, found_link, found_booked, here, itself, read_plain, cut_linked, cut_free, cut_split}
@@ -136,9 +136,8 @@ module _ (s : State) {M : Model} (r : Rel s.graph M s.book) where
       let b = port_there m p u x a in
       let c = block_seen r.fine p b.0 b.1 b.2 in
       let e : x ≡ port_place (place_of m (subport# p 0)) = found_place (sym a ∙ cut_split m p b t) in
-      ap (spot_of s.book.blocks) (sym c.slot)
-      ∙ (spot_of_lem r c.place c.is_seen
-      ∙ sym (ap (λ (v : PortPlace). spot v.node.0 v.side v.position) (e ∙ ap port_place (place_at r.fine c.place c.is_seen p 0 c.slot))))
+      spot_at r c.place c.is_seen p c.slot
+      ∙ sym (ap (λ (v : PortPlace). spot v.node.0 v.side v.position) (e ∙ ap port_place (place_at r.fine c.place c.is_seen p 0 c.slot)))
 
   -- Items of walks.
 

@@ -3,17 +3,17 @@
 use Rattle.std.specs.Prelude.{◌≡◌, Bool, length}
 use Rattle.std.proofs.Math.Path.{refl, sym, ap, subst}
 use Rattle.std.proofs.Common.{◌∙◌, ⊎_elim, arith}
-use Rattle.std.proofs.Math.Bool.{true, false, cond}
+use Rattle.std.proofs.Math.Bool.{true}
 use mathlib.Core.List.{List, ◌++◌, flat_map}
 use Prim.Native.Nat.{ℕ, ◌+◌, ◌<◌}
 use Rattle.port_tables.specs.Limits.{node_slots, port_slots}
 use Rattle.port_tables.specs.Lists.{range, Member, Rising}
 use Rattle.std.specs.List.{filter}
-use Rattle.portgraph.specs.Lookups.{contains_node, is_some, num_ports}
+use Rattle.portgraph.specs.Lookups.{num_ports}
 use Rattle.portgraph.specs.Model as model
 use Rattle.portgraph.specs.Model.{Model, Slots, gone, live, Valid, slot_of, count_of}
 use Rattle.portgraph.specs.GoodSlots.{zero_is_not_one, slot_in_range, slots_apart, node_below}
-use Rattle.portgraph.specs.PlaceLaws.{meta_of_node, gone_has_no_meta}
+use Rattle.portgraph.specs.PlaceLaws.{node_of_meta}
 use Rattle.port_tables.specs.declared.direction.Direction.{Direction}
 use Rattle.port_tables.specs.declared.direction.Direction.TheVariants.{Incoming, Outgoing}
 use Rattle.port_tables.specs.declared.node_entry.NodeMeta.{NodeMeta}
@@ -24,17 +24,13 @@ use Rattle.multiportgraph.specs.Wires.{is_block, blocks, ports_of_side}
 use Rattle.multiportgraph.specs.Walks.{is_seen, all_ports, ports_by_block}
 use Rattle.multiportgraph.specs.WellFormed.{inner#, Fine, BlockIs, Seen}
 use Rattle.multiportgraph.specs.Ends as ends
-use Rattle.port_tables.specs.Listing.{Apart, member_left, member_right, member_append, member_filter, filter_member, member_flat_map, flat_map_member, member_map, map_member, member_range, range_member, rising_append, rising_filter, rising_flat_map, rising_map, range_rises, partners, numbers_apart}
+use Rattle.port_tables.specs.Listing.{Apart, member_left, member_right, member_append, member_filter, filter_member, member_flat_map, flat_map_member, member_map, map_member, member_range, range_member, rising_append, rising_filter, rising_flat_map, rising_map, range_rises, numbers_apart}
 use Rattle.theorems.proofs.WireRule.{seen_live}
 use Rattle.multiportgraph.specs.CountLaws.{visible_ports_lem}
 use Rattle.multiportgraph.specs.declared.multiportgraph.MultiPortGraph.{MultiPortGraph}
-
--- two lists of numbers without repeats that have the same members are as long
-pub same_length : (a b : List ℕ) → Rising Apart a → Rising Apart b → ((x : ℕ) → Member x a → Member x b) → ((x : ℕ) → Member x b → Member x a) → length a ≡ length b
-same_length a b r s f g =
-    let p = partners (λ x y. x ≡ y) (λ x z y i j. i ∙ sym j) a b r (λ x i. (x, f x i, refl)) in
-    let q = partners (λ x y. x ≡ y) (λ x z y i j. i ∙ sym j) b a s (λ x i. (x, g x i, refl)) in
-    omega arith
+use Rattle.theorems.specs.PortCases.{live_contained}
+use Rattle.multiportgraph.specs.ScanLaws.{block_not_hidden, block_has_meta}
+pub use Rattle.theorems.specs.BookLaws.{same_length}
 
 -- the number of a port of a block
 abbrev pub PortOfBlock : MultiPortGraph → Model → ℕ → Type 0
@@ -91,22 +87,23 @@ module _ {m : MultiPortGraph} {M : Model} (f : Fine m M) where
 
   -- Blocks.
 
+  pub is_block_lem : (n : ℕ) (k : NodeMeta) → BlockIs m M n k → is_block m n ≡ true
+  unfolding is_block
+  is_block_lem n k b = rw b.0 (live_contained f n k b.1)
+
+  pub block_at : (n : ℕ) → is_block m n ≡ true → (k : NodeMeta) × BlockIs m M n k
+  block_at n b = let k = block_has_meta m n b in (k.0, (block_not_hidden m n b, node_of_meta f.good f.holds n k.0 k.1))
+
   pub blocks_list : ListsBlocks m M (blocks m)
-  unfolding blocks is_block
+  unfolding blocks
   blocks_list =
       record {
         once = numbers_apart (filter (is_block m) (range 0 node_slots)) (rising_filter ◌<◌ (is_block m) (range 0 node_slots) (range_rises 0 node_slots));
-        only = λ n i. go n (is_hidden m n) (M.node n) refl refl (member_filter (is_block m) n (range 0 node_slots) i).1;
+        only = λ n i. block_at n (member_filter (is_block m) n (range 0 node_slots) i).1;
         all = λ n k b.
             let u = node_below f.good n k b.1 in
-            let t = ap is_some (meta_of_node f.good f.holds n k b.1) in
-            filter_member (is_block m) n (range 0 node_slots) (range_member n 0 node_slots (omega arith) (omega arith)) (rw b.0 t);
+            filter_member (is_block m) n (range 0 node_slots) (range_member n 0 node_slots (omega arith) (omega arith)) (is_block_lem n k b);
       }
-    where
-      go : (n : ℕ) (b : Bool) (v : Slots) → is_hidden m n ≡ b → M.node n ≡ v → cond b false (contains_node m.graph n) ≡ true → (k : NodeMeta) × BlockIs m M n k
-      go n true v h e t = absurd (zero_is_not_one (cc))
-      go n false gone h e t = let z = ap is_some (gone_has_no_meta f.good f.holds n e) in absurd (zero_is_not_one (cc))
-      go n false (live k) h e t = (k, (h, e))
 
   -- Block after block.
 

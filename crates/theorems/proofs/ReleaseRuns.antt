@@ -1,52 +1,41 @@
 -- Histories under the two releases: 18 or the step without that check, and what follows for lists of calls.
-use Rattle.std.specs.Prelude.{◌≡◌, refl, Bool, true, false, cond, List, [], ◌∷◌, ◌⊎◌, ℕ, ◌+◌, eqb, leb, Option, Some, None, Result, Ok, Err}
+use Rattle.std.specs.Prelude.{◌≡◌, refl, Bool, true, false, cond, List, [], ◌∷◌, ◌⊎◌, ℕ, eqb, Option, Some, None, Result, Ok, Err}
 use Rattle.std.proofs.Common.{sym, ◌∙◌, ap, subst, inl, inr, ⊎_elim, eq-eqb}
 use Rattle.std.proofs.lemmas.Bool.{eqb-false}
-use Rattle.port_tables.specs.Limits.{present, node_ports}
-use Rattle.port_tables.specs.Entries.{same_side}
-use Rattle.portgraph.specs.Lookups.{meta_at}
-use Rattle.portgraph.specs.Calls.{add_node, link_ports, unlink_port}
-use Rattle.portgraph.specs.Resize.{set_num_ports}
+use Rattle.port_tables.specs.Limits.{present}
+use Rattle.portgraph.specs.Calls.{add_node, unlink_port}
 use Rattle.port_tables.specs.declared.direction.Direction.{Direction}
-use Rattle.port_tables.specs.declared.node_entry.NodeMeta.{NodeMeta}
-use Rattle.portgraph.specs.declared.portgraph.PortGraph.{PortGraph}
-use Rattle.multiportgraph.specs.Reading.{is_hidden, is_split, seen, end_at, as_read, far_subport, subports, copy_node}
+use Rattle.multiportgraph.specs.Reading.{is_split, seen, end_at, far_subport, subports, copy_node}
 use Rattle.multi_tables.specs.Forms.{Port, dead, hidden, visible, End, inner, lacking, good_offset, taken_under}
 use Rattle.multiportgraph.specs.Graph.{empty_graph}
-use Rattle.multiportgraph.specs.HiddenNodes.{Prepared, ready, full, prepare}
 use Rattle.multiportgraph.specs.Answers.{add_numbers, remove_numbers, set_numbers, link_numbers, cut_numbers, tidy_numbers}
 use Rattle.multiportgraph.specs.Wires.{ports_of_side, ports_walked, subports_of_port, subports_of_side}
 use Rattle.multiportgraph.specs.Refusals.{input_taken, wired_input}
-use Rattle.multiportgraph.specs.Calls.{add_block, added_as, cut_plain, cut_port, cut_sub, link_clean_if, link_pair_if, link_sub_if, remove_block, set_as, set_counts, tidy_port}
-use Rattle.multiportgraph.specs.Cases.{cut_end, cut_refused, cut_seen, cut_sub_seen, link_clean_by, link_first, link_first_end, link_inner, link_live, link_prepared, link_refused, link_second, link_second_end, link_seen, link_sub_seen, remove_meta, set_meta, set_refused, taken_sub_seen, tidy_seen}
+use Rattle.multiportgraph.specs.Calls.{add_block, added_as, cut_plain, cut_port, cut_sub, link_clean_if, link_pair_if, link_sub_if, remove_block, set_counts, tidy_port}
+use Rattle.multiportgraph.specs.Cases.{link_clean_by, link_first_end, link_refused, link_second_end, link_seen, link_sub_seen, taken_sub_seen}
 use Rattle.multi_tables.specs.NamedEnds.{pair_seen, taken_first, taken_second, taken_seen}
-use Rattle.multiportgraph.specs.CaseLaws.{add_cases, remove_cases, set_cases, link_cases, link_taken, link_clean_cases, link_clean_taken, link_sub_cases, link_sub_taken, cut_sub_cases, tidy_cases}
-use Rattle.multiportgraph.proofs.CutLaws.{cut_cases}
+use Rattle.multiportgraph.specs.CaseLaws.{add_cases, link_cases, link_taken, link_clean_cases, link_clean_taken, link_sub_cases, link_sub_taken}
 use Rattle.multiportgraph.specs.declared.multiportgraph.MultiPortGraph.{MultiPortGraph}
 use Rattle.port_tables.specs.declared.release.Release.{Release}
 use Rattle.port_tables.specs.declared.release.Release.TheVariants.{One, Two}
-use Rattle.multi_tables.specs.declared.answers.SubportIndex.{SubportIndex}
 use Rattle.multiportgraph.specs.declared.multiportgraph.NodeAdded.{NodeAdded}
 use Rattle.multiportgraph.specs.declared.multiportgraph.NodeRemoved.{NodeRemoved}
 use Rattle.multiportgraph.specs.declared.multiportgraph.PortsSet.{PortsSet}
 use Rattle.multiportgraph.specs.declared.multiportgraph.PortsLinked.{PortsLinked}
 use Rattle.multiportgraph.specs.declared.multiportgraph.PortUnlinked.{PortUnlinked}
 use Rattle.multiportgraph.specs.declared.multiportgraph.PortTidied.{PortTidied}
-use Rattle.multi_tables.specs.declared.answers.Refusal.TheVariants.{BadOffset, InputWired, TooManyPorts}
+use Rattle.multi_tables.specs.declared.answers.Refusal.TheVariants.{BadOffset, InputWired}
 use Rattle.theorems.specs.Book as book
 use Rattle.theorems.specs.Book.{Call, Book, book_answer}
 use Rattle.theorems.specs.History.{Stepped, State, step, next, entered, marks_named, ports_shown, run, run_from, run_from_under, run_under}
 use Rattle.theorems.specs.ReleaseClaims.{for_release, step_unchecked, stepped_for, first_of, number_of, Answered, start, answers_from, answers, without18, calls_of, calls_passed}
+use Rattle.theorems.specs.CallCases.{remove_each, set_each, link_each, clean_each, link_sub_each, cut_each, cut_sub_each, tidy_each}
 use Rattle.theorems.specs.ReleaseLaws.{add_for, remove_for, set_for_lem, link_for, clean_for, sub_for, cut_for_lem, cut_sub_for, tidy_for}
 use Rattle.port_tables.specs.declared.index.PortIndex.{PortIndex}
 use Rattle.portgraph.specs.declared.portgraph.NoSuchPort.{NoSuchPort}
 use Rattle.portgraph.specs.declared.alloc.AddError.TheVariants as add_error
-use Rattle.portgraph.specs.declared.portgraph.LinkError.TheVariants as link_error
-use Rattle.portgraph.specs.declared.resize.SetError.TheVariants as set_error
 use Rattle.port_tables.specs.declared.index.NodeIndex.{NodeIndex}
 use Rattle.portgraph.specs.declared.alloc.AddError.{AddError}
-use Rattle.portgraph.specs.declared.portgraph.LinkError.{LinkError}
-use Rattle.portgraph.specs.declared.resize.SetError.{SetError}
 
 -- Without the check the release plays no part.
 
@@ -67,29 +56,26 @@ module _ (m : MultiPortGraph) where
   abbrev Either : (Bool → PortsLinked) → Bool → Type 0
   Either link taken = (link taken ≡ link_refused m InputWired) ⊎ (link taken ≡ link false)
 
+  -- the calls on two ports: 18 stands after the refusals of a port that is dead or hidden
+  either_seen : (a b : ℕ) (link : Bool → PortsLinked) (call_of : Port → Port → PortsLinked) → ((v : Port) → call_of dead v ≡ link_refused m (taken_seen a b dead v)) →
+      ((v : Port) → call_of hidden v ≡ link_refused m (taken_seen a b hidden v)) → ((n : ℕ) (d : Direction) → call_of (visible n d) hidden ≡ link_refused m (taken_seen a b (visible n d) hidden)) →
+      (u v : Port) → link true ≡ link_refused m (taken_seen a b u v) → link false ≡ call_of u v → Either link true
+  either_seen a b link call_of first_dead first_hidden second_hidden dead v e f = inr (e ∙ (sym (first_dead v) ∙ sym f))
+  either_seen a b link call_of first_dead first_hidden second_hidden hidden v e f = inr (e ∙ (sym (first_hidden v) ∙ sym f))
+  either_seen a b link call_of first_dead first_hidden second_hidden (visible n d) hidden e f = inr (e ∙ (sym (second_hidden n d) ∙ sym f))
+  either_seen a b link call_of first_dead first_hidden second_hidden (visible n d) dead e f = inl e
+  either_seen a b link call_of first_dead first_hidden second_hidden (visible n d) (visible k s) e f = inl e
+
   pair_either : (a b : ℕ) (t : Bool) → Either (λ u. link_pair_if u present m a b) t
   pair_either a b false = inr refl
-  pair_either a b true = go (seen m a) (seen m b) (link_taken present m a b) (link_cases present m a b)
-    where
-      go : (u v : Port) → link_pair_if true present m a b ≡ link_refused m (taken_seen a b u v) → link_pair_if false present m a b ≡ link_seen m a b u v →
-          Either (λ w. link_pair_if w present m a b) true
-      go dead v e f = inr (e ∙ sym f)
-      go hidden v e f = inr (e ∙ sym f)
-      go (visible n d) hidden e f = inr (e ∙ sym f)
-      go (visible n d) dead e f = inl e
-      go (visible n d) (visible k s) e f = inl e
+  pair_either a b true =
+      either_seen a b (λ u. link_pair_if u present m a b) (link_seen m a b) (λ v. refl) (λ v. refl) (λ n d. refl) (seen m a) (seen m b) (link_taken present m a b) (link_cases present m a b)
 
   clean_either : (a b : ℕ) (t : Bool) → Either (λ u. link_clean_if u present m a b) t
   clean_either a b false = inr refl
-  clean_either a b true = go (seen m a) (seen m b) (link_clean_taken present m a b) (link_clean_cases present m a b)
-    where
-      go : (u v : Port) → link_clean_if true present m a b ≡ link_refused m (taken_seen a b u v) → link_clean_if false present m a b ≡ link_clean_by present m a b (pair_seen a b u v) →
-          Either (λ w. link_clean_if w present m a b) true
-      go dead v e f = inr (e ∙ sym f)
-      go hidden v e f = inr (e ∙ sym f)
-      go (visible n d) hidden e f = inr (e ∙ sym f)
-      go (visible n d) dead e f = inl e
-      go (visible n d) (visible k s) e f = inl e
+  clean_either a b true =
+      either_seen a b (λ u. link_clean_if u present m a b) (λ u v. link_clean_by present m a b (pair_seen a b u v)) (λ v. refl) (λ v. refl) (λ n d. refl) (seen m a) (seen m b)
+      (link_clean_taken present m a b) (link_clean_cases present m a b)
 
   sub_either : (p o q r : ℕ) (t : Bool) → Either (λ u. link_sub_if u m p o q r) t
   sub_either p o q r false = inr refl
@@ -131,36 +117,34 @@ pub record Gave18 (m : MultiPortGraph) (c : Call) : Type 0 where
   pub book : (B : Book) → entered m c B ≡ B
 
 module _ (m : MultiPortGraph) where
+  -- a link of any kind, as the step that it is
+  link_either : (c : Call) (link : Bool → PortsLinked) (taken : Bool) (into : PortsLinked → Stepped c) → step m c ≡ into (link taken) → step_unchecked m c ≡ into (link false) →
+      number_of c (into (link_refused m InputWired)).answer ≡ 18 → (into (link_refused m InputWired)).graph ≡ m →
+      ((B : Book) → book_answer B c (into (link_refused m InputWired)).answer (marks_named m c) (ports_shown (into (link_refused m InputWired)).graph c) ≡ B) →
+      Either m link taken → Gave18 m c ⊎ (step m c ≡ step_unchecked m c)
+  link_either c link taken into is unchecked number graph book =
+      ⊎_elim
+      (λ e.
+      let s = is ∙ ap into e in
+      inl (record {
+        number = ap (λ (v : Stepped c). number_of c v.answer) s ∙ number;
+        graph = ap (λ (v : Stepped c). v.graph) s ∙ graph;
+        book = λ B. ap (λ (v : Stepped c). book_answer B c v.answer (marks_named m c) (ports_shown v.graph c)) s ∙ book B;
+      }))
+      (λ e. inr (is ∙ (ap into e ∙ sym unchecked)))
+
   pub step_either : (c : Call) → Gave18 m c ⊎ (step m c ≡ step_unchecked m c)
   step_either (book.add_call i o) = inr refl
   step_either (book.remove_call n) = inr refl
   step_either (book.set_call n i o room) = inr refl
   step_either (book.link_call a b) =
-      ⊎_elim
-      (λ e. inl (record {
-        number = ap (λ (v : PortsLinked). first_of (link_numbers v.answer)) e;
-        graph = ap (λ (v : PortsLinked). v.graph) e;
-        book = λ B. ap (λ (v : PortsLinked). book_answer B (book.link_call a b) v.answer (marks_named m (book.link_call a b)) []) e;
-      }))
-      (λ e. inr (ap (λ (v : PortsLinked). record { graph = v.graph; answer = v.answer }) e))
+      link_either (book.link_call a b) (λ u. link_pair_if u present m a b) (input_taken m a b) (λ v. record { graph = v.graph; answer = v.answer }) refl refl refl refl (λ B. refl)
       (pair_either m a b (input_taken m a b))
   step_either (book.link_clean_call a b) =
-      ⊎_elim
-      (λ e. inl (record {
-        number = ap (λ (v : PortsLinked). first_of (link_numbers v.answer)) e;
-        graph = ap (λ (v : PortsLinked). v.graph) e;
-        book = λ B. ap (λ (v : PortsLinked). book_answer B (book.link_clean_call a b) v.answer (marks_named m (book.link_clean_call a b)) []) e;
-      }))
-      (λ e. inr (ap (λ (v : PortsLinked). record { graph = v.graph; answer = v.answer }) e))
+      link_either (book.link_clean_call a b) (λ u. link_clean_if u present m a b) (input_taken m a b) (λ v. record { graph = v.graph; answer = v.answer }) refl refl refl refl (λ B. refl)
       (clean_either m a b (input_taken m a b))
   step_either (book.link_sub_call p o q r) =
-      ⊎_elim
-      (λ e. inl (record {
-        number = ap (λ (v : PortsLinked). first_of (link_numbers v.answer)) e;
-        graph = ap (λ (v : PortsLinked). v.graph) e;
-        book = λ B. ap (λ (v : PortsLinked). book_answer B (book.link_sub_call p o q r) v.answer (marks_named m (book.link_sub_call p o q r)) []) e;
-      }))
-      (λ e. inr (ap (λ (v : PortsLinked). record { graph = v.graph; answer = v.answer }) e))
+      link_either (book.link_sub_call p o q r) (λ u. link_sub_if u m p o q r) (input_taken m p q) (λ v. record { graph = v.graph; answer = v.answer }) refl refl refl refl (λ B. refl)
       (sub_either m p o q r (input_taken m p q))
   step_either (book.cut_call p) = inr refl
   step_either (book.cut_sub_call p o) = inr refl
@@ -192,13 +176,6 @@ module _ (m : MultiPortGraph) where
   abbrev Other : List ℕ → Type 0
   Other l = eqb (first_of l) 18 ≡ false
 
-  inner_other : (a : Result (PortIndex × PortIndex) LinkError) (g : PortGraph) (s t : SubportIndex) → Other (link_numbers (link_inner m s t a g).answer)
-  inner_other (Ok (x, y)) g s t = refl
-  inner_other (Err (link_error.UnknownPort x)) g s t = refl
-  inner_other (Err (link_error.UnknownSecondPort y)) g s t = refl
-  inner_other (Err (link_error.IncompatibleDirections x y d)) g s t = refl
-  inner_other (Err (link_error.AlreadyLinked x)) g s t = refl
-
   add_other : (i o : ℕ) → Other (add_numbers (add_block m i o).answer)
   add_other i o = subst (λ (v : NodeAdded). Other (add_numbers v.answer)) (sym (add_cases present m i o)) (go (add_node m.graph i o).answer)
     where
@@ -208,149 +185,39 @@ module _ (m : MultiPortGraph) where
       go (Err add_error.NoRoom) = refl
 
   remove_other : (n : ℕ) → Other (remove_numbers (remove_block m n).answer)
-  remove_other n = subst (λ (v : NodeRemoved). Other (remove_numbers v.answer)) (sym (remove_cases m n)) (go (meta_at m.graph n))
-    where
-      shown : (k : NodeMeta) (b : Bool) → is_hidden m n ≡ b → Other (remove_numbers (remove_meta m n (Some k)).answer)
-      shown k true e = rw e refl
-      shown k false e = rw e refl
-
-      go : (v : Option NodeMeta) → Other (remove_numbers (remove_meta m n v).answer)
-      go None = refl
-      go (Some k) = shown k (is_hidden m n) refl
+  remove_other n = remove_each m (λ v. Other (remove_numbers v.answer)) n (λ z w. w) (λ k h. refl)
 
   set_other : (n i o room : ℕ) → Other (set_numbers (set_counts m n i o room).answer)
-  set_other n i o room = subst (λ (v : PortsSet). Other (set_numbers v.answer)) (sym (set_cases present m n i o room)) (few (leb (i + o) node_ports))
-    where
-      lower : (a : Result ℕ SetError) → Other (set_numbers (set_as a))
-      lower (Ok e) = refl
-      lower (Err set_error.TooManyPorts) = refl
-      lower (Err set_error.UnknownNode) = refl
-      lower (Err set_error.MovesTooShort) = refl
-      lower (Err set_error.NoRoom) = refl
-
-      shown : (k : NodeMeta) (b : Bool) → is_hidden m n ≡ b → Other (set_numbers (set_meta m n i o room (Some k)).answer)
-      shown k true e = rw e refl
-      shown k false e = rw e (lower (set_num_ports m.graph n i o room).answer)
-
-      node : (v : Option NodeMeta) → Other (set_numbers (set_meta m n i o room v).answer)
-      node None = refl
-      node (Some k) = shown k (is_hidden m n) refl
-
-      few : (b : Bool) → Other (set_numbers (cond b (set_meta m n i o room (meta_at m.graph n)) (set_refused m TooManyPorts)).answer)
-      few true = node (meta_at m.graph n)
-      few false = refl
+  set_other n i o room = set_each m (λ v. Other (set_numbers v.answer)) n i o room (λ z w. w) (λ k e h q. refl)
 
   link_other : (a b : ℕ) → Other (link_numbers (link_pair_if false present m a b).answer)
-  link_other a b = subst (λ (v : PortsLinked). Other (link_numbers v.answer)) (sym (link_cases present m a b)) (go (seen m a) (seen m b))
-    where
-      first : (P : Prepared) → Other (link_numbers (link_first m b P).answer)
-      first full = refl
-      first (ready m₁ x o) = refl
-
-      sides : (m₂ : MultiPortGraph) (d : Direction) (x o : ℕ) (e : Direction) (y r : ℕ) (c : Bool) → same_side d e ≡ c → Other (link_numbers (link_prepared m₂ a d x o b e y r).answer)
-      sides m₂ d x o e y r true j = rw j refl
-      sides m₂ d x o e y r false j = rw j refl
-
-      second : (d : Direction) (x o : ℕ) (e : Direction) (Q : Prepared) → Other (link_numbers (link_second m a d x o b e Q).answer)
-      second d x o e full = refl
-      second d x o e (ready m₂ y r) = sides m₂ d x o e y r (same_side d e) refl
-
-      live : (d e : Direction) (P : Prepared) → Other (link_numbers (link_live m a d b e P).answer)
-      live d e full = refl
-      live d e (ready m₁ x o) = second d x o e (prepare m₁ b e)
-
-      go : (u v : Port) → Other (link_numbers (link_seen m a b u v).answer)
-      go dead v = refl
-      go hidden v = refl
-      go (visible n d) hidden = refl
-      go (visible n d) dead = first (prepare m a d)
-      go (visible n d) (visible k e) = live d e (prepare m a d)
+  link_other a b =
+      link_each m (λ v. Other (link_numbers v.answer)) a b (λ z w. w) (λ n d s m₁ x o g z w. w) (λ n d s k e t m₁ x o g m₂ y r h. ((λ z w. w), refl))
 
   clean_other : (a b : ℕ) → Other (link_numbers (link_clean_if false present m a b).answer)
-  clean_other a b = subst (λ (v : PortsLinked). Other (link_numbers v.answer)) (sym (link_clean_cases present m a b)) (go (seen m a) (seen m b))
-    where
-      sides : (n : ℕ) (d : Direction) (k : ℕ) (e : Direction) (c : Bool) → same_side d e ≡ c →
-          Other (link_numbers (link_clean_by present m a b (pair_seen a b (visible n d) (visible k e))).answer)
-      sides n d k e true j = rw j refl
-      sides n d k e false j = rw j (link_other a b)
-
-      go : (u v : Port) → Other (link_numbers (link_clean_by present m a b (pair_seen a b u v)).answer)
-      go dead v = refl
-      go hidden v = refl
-      go (visible n d) hidden = refl
-      go (visible n d) dead = refl
-      go (visible n d) (visible k e) = sides n d k e (same_side d e) refl
+  clean_other a b = clean_each m (λ v. Other (link_numbers v.answer)) a b (λ z w. w) (link_other a b)
 
   sub_other : (p o q r : ℕ) → Other (link_numbers (link_sub_if false m p o q r).answer)
-  sub_other p o q r = subst (λ (v : PortsLinked). Other (link_numbers v.answer)) (sym (link_sub_cases m p o q r)) (offsets (good_offset o) (good_offset r))
-    where
-      second : (x : ℕ) (v : End) → Other (link_numbers (link_second_end m p o q r x v).answer)
-      second x lacking = refl
-      second x (inner y) = inner_other (link_ports m.graph x y).answer (link_ports m.graph x y).graph (as_read m p o) (as_read m q r)
-
-      first : (w : Port) (v : End) → Other (link_numbers (link_first_end m p o q r w v).answer)
-      first w lacking = refl
-      first dead (inner x) = refl
-      first hidden (inner x) = refl
-      first (visible k e) (inner x) = second x (end_at m q e r)
-
-      go : (u v : Port) → Other (link_numbers (link_sub_seen m p o q r u v).answer)
-      go dead v = refl
-      go hidden v = refl
-      go (visible n d) hidden = refl
-      go (visible n d) dead = first dead (end_at m p d o)
-      go (visible n d) (visible k e) = first (visible k e) (end_at m p d o)
-
-      offsets : (g h : Bool) → Other (link_numbers (cond g (cond h (link_sub_seen m p o q r (seen m p) (seen m q)) (link_refused m BadOffset)) (link_refused m BadOffset)).answer)
-      offsets true true = go (seen m p) (seen m q)
-      offsets true false = refl
-      offsets false h = refl
+  sub_other p o q r = link_sub_each m (λ v. Other (link_numbers v.answer)) p o q r (λ z w. w) (λ x y. refl)
 
   cut_other : (p : ℕ) → Other (cut_numbers (cut_port m p).answer)
-  cut_other p = subst (λ (v : PortUnlinked). Other (cut_numbers v.answer)) (sym (cut_cases m p)) (go (seen m p))
+  cut_other p = cut_each m (λ v. Other (cut_numbers v.answer)) p (λ z w. w) refl (plain (unlink_port m.graph p).answer)
     where
       plain : (v : Result (Option PortIndex) NoSuchPort) → Other (cut_numbers (cut_plain m v))
       plain (Ok (Some q)) = refl
       plain (Ok None) = refl
       plain (Err q) = refl
 
-      here : (n : ℕ) (d : Direction) (b : Bool) → is_split m p ≡ b → Other (cut_numbers (cut_seen m p (visible n d)).answer)
-      here n d true e = rw e refl
-      here n d false e = rw e (plain (unlink_port m.graph p).answer)
-
-      go : (u : Port) → Other (cut_numbers (cut_seen m p u).answer)
-      go dead = refl
-      go hidden = refl
-      go (visible n d) = here n d (is_split m p) refl
-
   cut_sub_other : (p o : ℕ) → Other (cut_numbers (cut_sub m p o).answer)
-  cut_sub_other p o = subst (λ (v : PortUnlinked). Other (cut_numbers v.answer)) (sym (cut_sub_cases m p o)) (good (good_offset o))
+  cut_sub_other p o = cut_sub_each m (λ v. Other (cut_numbers v.answer)) p o (λ z w. w) (λ x. far (unlink_port m.graph x).answer)
     where
       far : (v : Result (Option PortIndex) NoSuchPort) → Other (cut_numbers (far_subport m v))
       far (Ok (Some q)) = refl
       far (Ok None) = refl
       far (Err q) = refl
 
-      at : (v : End) → Other (cut_numbers (cut_end m p v).answer)
-      at lacking = refl
-      at (inner x) = far (unlink_port m.graph x).answer
-
-      go : (u : Port) → Other (cut_numbers (cut_sub_seen m p o u).answer)
-      go dead = refl
-      go hidden = refl
-      go (visible n d) = at (end_at m p d o)
-
-      good : (b : Bool) → Other (cut_numbers (cond b (cut_sub_seen m p o (seen m p)) (cut_refused m BadOffset)).answer)
-      good true = go (seen m p)
-      good false = refl
-
   tidy_other : (p : ℕ) → Other (tidy_numbers (tidy_port m p).answer)
-  tidy_other p = subst (λ (v : PortTidied). Other (tidy_numbers v.answer)) (sym (tidy_cases m p)) (go (seen m p))
-    where
-      go : (u : Port) → Other (tidy_numbers (tidy_seen m p u).answer)
-      go dead = refl
-      go hidden = refl
-      go (visible n d) = refl
+  tidy_other p = tidy_each m (λ v. Other (tidy_numbers v.answer)) p (λ z w. w) (λ n d e b s. refl)
 
   pub unchecked_other : (c : Call) → eqb (number_of c (step_unchecked m c).answer) 18 ≡ false
   unchecked_other (book.add_call i o) = add_other i o

@@ -28,7 +28,7 @@ module _ {m : MultiPortGraph} {M : Model} (f : Fine m M) (n : ℕ) where
   remove_is : (v : Option NodeMeta) → meta_at m.graph n ≡ v → remove_block m n ≡ remove_meta m n v
   remove_is v e = remove_cases m n ∙ ap (remove_meta m n) e
 
-  remove_live : (k : NodeMeta) (b : Bool) → is_hidden m n ≡ b → M.node n ≡ live k →
+  pub remove_live : (k : NodeMeta) (b : Bool) → is_hidden m n ≡ b → M.node n ≡ live k →
       remove_block m n ≡ cond b (remove_refused m HiddenNode) (record { graph = drop_block m n k; answer = Ok tt })
   remove_live k b h e = remove_is (Some k) (meta_of_node f.good f.holds n k e) ∙ rw h
 

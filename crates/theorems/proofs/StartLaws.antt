@@ -12,12 +12,11 @@ use borrow.Author.Tests.{le-ltb, eqb-true, eq-eqb}
 use Rattle.port_tables.specs.Limits.{node_slots}
 use Rattle.port_tables.specs.Lists.{Member}
 use Rattle.port_tables.specs.Entries.{ports_on, node#, port#}
-use Rattle.portgraph.specs.Lookups.{contains_node, is_some, num_ports, count_in, capacity_in, node_port_capacity, port_index, port_in}
+use Rattle.portgraph.specs.Lookups.{contains_node, num_ports, count_in, capacity_in, node_port_capacity, port_index, port_in}
 use Rattle.portgraph.specs.Model as model
 use Rattle.portgraph.specs.Model.{Model, Slots, gone, live, slot_of, is_live, ports_of}
-use Rattle.portgraph.specs.Sums.{total_same}
 use Rattle.portgraph.specs.GoodSlots.{zero_is_not_one, gone_not_live}
-use Rattle.portgraph.specs.PlaceLaws.{offset_of_place, meta_of_node, gone_has_no_meta, port_index_is}
+use Rattle.portgraph.specs.PlaceLaws.{offset_of_place, meta_of_node, port_index_is}
 use Rattle.port_tables.specs.declared.direction.Direction.{Direction}
 use Rattle.port_tables.specs.declared.direction.Direction.TheVariants.{Outgoing}
 use Rattle.port_tables.specs.declared.index.NodeIndex.{NodeIndex}
@@ -34,7 +33,6 @@ use Rattle.multiportgraph.specs.Lookups.{direction_seen, direction_of, node_seen
 use Rattle.multiportgraph.specs.WellFormed.{Fine, BlockIs, Seen}
 use Rattle.multiportgraph.specs.Ends as ends
 use Rattle.multiportgraph.specs.ScanLaws.{side_in_row, side_links_in_row}
-use Rattle.theorems.specs.BookLaws.{total_zeros}
 use Rattle.multiportgraph.specs.CountLaws.{visible_nodes_lem}
 use Rattle.theorems.proofs.PortListing.{blocks_list}
 use Rattle.theorems.proofs.WireRule.{seen_live}
@@ -42,7 +40,9 @@ use Rattle.multiportgraph.specs.declared.multiportgraph.MultiPortGraph.{MultiPor
 use Rattle.multi_tables.specs.declared.answers.Refusal.{Refusal}
 use Rattle.multi_tables.specs.declared.answers.Refusal.TheVariants.{UnknownNode, HiddenNode, UnknownPort, HiddenPort}
 use Rattle.theorems.specs.Conditions.{OfBlock, PortIs, no_port, hidden_port, block_port, remove_unknown, remove_hidden, cut_dead, cut_hidden, NodeRefused, PortRefused, BetweenRefused, NodeIs, between_unknown, between_hidden, no_node, hidden_node, block_node}
-use Rattle.theorems.specs.PortCases.{port_is, seen_block_port}
+use Rattle.theorems.specs.PortCases.{port_is, seen_block_port, live_contained, gone_not_contained}
+use Rattle.std.proofs.lemmas.List.{nil_from_length}
+use Rattle.portgraph.specs.LinkHolds.{total_none}
 
 -- Conditions.
 
@@ -72,15 +72,15 @@ module _ {m : MultiPortGraph} {M : Model} (f : Fine m M) where
 
   start_unknown : (n : ℕ) → M.node n ≡ gone → start_at_node m n ≡ refused UnknownNode
   unfolding start_at_node
-  start_unknown n e = rw (ap is_some (gone_has_no_meta f.good f.holds n e))
+  start_unknown n e = rw (gone_not_contained f n e)
 
   start_hidden : (n : ℕ) → is_hidden m n ≡ true → start_at_node m n ≡ refused HiddenNode
   unfolding start_at_node
-  start_hidden n h = let k = f.copy n h in rw (ap is_some (meta_of_node f.good f.holds n k.meta k.here), h)
+  start_hidden n h = let k = f.copy n h in rw (live_contained f n k.meta k.here, h)
 
   start_block : (n : ℕ) (k : NodeMeta) → BlockIs m M n k → start_at_node m n ≡ started
   unfolding start_at_node
-  start_block n k b = rw (ap is_some (meta_of_node f.good f.holds n k b.1), b.0)
+  start_block n k b = rw (live_contained f n k b.1, b.0)
 
   pub start_at_node_refused : (n : ℕ) (r : Refusal) → (start_at_node m n ≡ refused r) ↔ NodeRefused m M n r
   start_at_node_refused n r = ((λ e. go (node_is n) e), back r)
@@ -104,15 +104,12 @@ module _ {m : MultiPortGraph} {M : Model} (f : Fine m M) where
 
   -- From one node to another.
 
-  not_contained : (n : ℕ) → M.node n ≡ gone → contains_node m.graph n ≡ false
-  not_contained n e = ap is_some (gone_has_no_meta f.good f.holds n e)
-
   contained : (n : ℕ) → (M.node n ≡ gone → ⊥) → contains_node m.graph n ≡ true
   contained n h = go (M.node n) refl
     where
       go : (v : Slots) → M.node n ≡ v → contains_node m.graph n ≡ true
       go gone e = absurd (h e)
-      go (live k) e = ap is_some (meta_of_node f.good f.holds n k e)
+      go (live k) e = live_contained f n k e
 
   block_live : (n : ℕ) (k : NodeMeta) → BlockIs m M n k → M.node n ≡ gone → ⊥
   block_live n k b e = gone_not_live e b.1
@@ -123,13 +120,13 @@ module _ {m : MultiPortGraph} {M : Model} (f : Fine m M) where
 
   pub start_between_refuses : (n k : ℕ) (r : Refusal) → BetweenRefused m M n k r → start_between m n k ≡ refused r
   unfolding start_between
-  start_between_refuses n k r (between_unknown (inl e)) = rw (not_contained n e)
+  start_between_refuses n k r (between_unknown (inl e)) = rw (gone_not_contained f n e)
   start_between_refuses n k r (between_unknown (inr e)) = go (contains_node m.graph n)
     where
       go : (b : Bool) →
           cond b (cond (contains_node m.graph k) (cond (is_hidden m n) (refused HiddenNode) (start_at_node m k)) (refused UnknownNode)) (refused UnknownNode)
           ≡ refused UnknownNode
-      go true = rw (not_contained k e)
+      go true = rw (gone_not_contained f k e)
       go false = refl
   start_between_refuses n k r (between_hidden h j (inl t)) = between_live n k h j ∙ rw t
   start_between_refuses n k r (between_hidden h j (inr t)) = between_live n k h j ∙ go (is_hidden m n)
@@ -355,10 +352,6 @@ module _ {m : MultiPortGraph} {M : Model} (f : Fine m M) where
 
 -- Empty: no blocks.
 
-nothing_listed : {A : Type 0} (l : List A) → length l ≡ 0 → l ≡ []
-nothing_listed [] e = refl
-nothing_listed (x ∷ l) e = absurd (omega arith)
-
 module _ {m : MultiPortGraph} {M : Model} (f : Fine m M) where
   -- where there are no blocks there are no hidden nodes either
   all_gone : blocks m ≡ [] → (n : ℕ) → M.node n ≡ gone
@@ -380,11 +373,11 @@ module _ {m : MultiPortGraph} {M : Model} (f : Fine m M) where
       there true e t =
           let z : m.graph.node_count ≡ 0 = eqb-true _ _ e in
           let v = visible_nodes_lem f in
-          nothing_listed (blocks m) (omega arith)
+          nil_from_length (blocks m) (omega arith)
       there false e t = absurd (zero_is_not_one (cc))
 
       back : blocks m ≡ [] → cond (eqb m.graph.node_count 0) (eqb m.graph.port_count 0) false ≡ true
       back e =
-          let n : m.graph.node_count ≡ 0 = f.holds.node_count ∙ (total_same node_slots (λ n. is_live (M.node n)) (λ n. 0) (λ n l. ap is_live (all_gone e n)) ∙ total_zeros node_slots) in
-          let p : m.graph.port_count ≡ 0 = f.holds.port_count ∙ (total_same node_slots (λ n. ports_of (M.node n)) (λ n. 0) (λ n l. ap ports_of (all_gone e n)) ∙ total_zeros node_slots) in
+          let n : m.graph.node_count ≡ 0 = f.holds.node_count ∙ total_none node_slots (λ n. is_live (M.node n)) (λ n. ap is_live (all_gone e n)) in
+          let p : m.graph.port_count ≡ 0 = f.holds.port_count ∙ total_none node_slots (λ n. ports_of (M.node n)) (λ n. ap ports_of (all_gone e n)) in
           rw (eq-eqb _ _ n, eq-eqb _ _ p)

@@ -1,8 +1,7 @@
 -- Proofs of the wire rule, of cuts that restore and of links in either order.
-use Rattle.theorems.specs.Pairs.{ok_pair}
 use Rattle.std.specs.Prelude.{◌≡◌, cond, List, [], ◌∷◌, ℕ, ◌+◌, ◌<◌, Option, Some, None, Result, Ok, Err}
 use Rattle.std.proofs.Math.Path.{refl}
-use Rattle.std.proofs.Common.{sym, ap, ◌∙◌, subst, inl, inr, ⊎_elim, lt-ltb}
+use Rattle.std.proofs.Common.{sym, ap, ◌∙◌, subst, inl, ⊎_elim, lt-ltb}
 use native.Mathlib.Omega.{arith}
 use Rattle.portgraph.specs.Model as model
 use Rattle.portgraph.specs.Model.{Model, Slots, slot_of, first_of, side_start, count_of}
@@ -13,20 +12,19 @@ use Rattle.portgraph.specs.Calls.{unlink_port}
 use Rattle.port_tables.specs.declared.release.Release.{Release}
 use Rattle.multiportgraph.specs.Reading.{is_split, end_at, far_subport}
 use Rattle.multi_tables.specs.Forms.{inner, subport#}
-use Rattle.multiportgraph.specs.Calls.{link_sub, cut_sub, link_pair, link_clean}
+use Rattle.multiportgraph.specs.Calls.{cut_sub}
 use Rattle.multiportgraph.specs.Wires.{wires_walked}
 use Rattle.theorems.specs.Book.{Call, Block, Book, spot_of, add_wire}
-use Rattle.theorems.specs.History.{State, step, entered, next, run}
-use Rattle.multiportgraph.specs.WellFormed.{Fine, Seen, lift, outer, IsEnd, WireIn, SameBlocks, Wiring, none, HasEnd}
+use Rattle.theorems.specs.History.{State, entered, next, run}
+use Rattle.multiportgraph.specs.WellFormed.{Fine, Seen, lift, WireIn, SameBlocks, Wiring, none, HasEnd}
 use Rattle.theorems.specs.BookLaws.{same_count}
 use Rattle.multiportgraph.specs.HiddenStays.{true_not_false}
-use Rattle.multiportgraph.specs.Ends.{seen_block, ends_join_ends}
+use Rattle.multiportgraph.specs.Ends.{seen_block, seen_still}
 use Rattle.multiportgraph.specs.WalkRule.{walk_ends_lem, walked_is_wires, walked_once, same_wires_same_list}
-use Rattle.multiportgraph.specs.LinkCutLaws.{end_named, CutDone, CutSays, cut_sub_law, LinkSubSays, link_sub_law}
-use Rattle.theorems.specs.LinkLaw.{LinkSays, link_says}
-use Rattle.theorems.proofs.LinkCleanCall.{clean_says}
-use Rattle.theorems.proofs.WireRule.{Rel, OneMore, ports_link, subports_link, seen_live, has_end_touches, touches_has_end}
-use Rattle.theorems.proofs.CallLaws.{rel_step, rel_run}
+use Rattle.multiportgraph.specs.LinkCutLaws.{end_named, CutDone, CutSays, cut_sub_law}
+use Rattle.theorems.specs.LinkLaw.{end_of_sides, far_of_sides}
+use Rattle.theorems.proofs.WireRule.{Rel, OneMore, has_end_touches, touches_has_end}
+use Rattle.theorems.proofs.CallLaws.{rel_step, rel_run, one_more_wire}
 use Rattle.multiportgraph.specs.declared.multiportgraph.MultiPortGraph.{MultiPortGraph}
 use Rattle.multi_tables.specs.declared.answers.SubportIndex.{SubportIndex}
 use Rattle.multi_tables.specs.declared.answers.Refusal.{Refusal}
@@ -37,6 +35,7 @@ use Rattle.port_tables.specs.declared.index.PortIndex.{PortIndex}
 use Rattle.portgraph.specs.declared.portgraph.NoSuchPort.{NoSuchPort}
 use Rattle.multi_tables.specs.declared.answers.PortPlace.{PortPlace}
 use Rattle.std.proofs.lemmas.Bool.{false_from_ne_true}
+use Rattle.multiportgraph.specs.SplitLaws.{end_of_wire}
 
 -- Graph and book that go together obey the wire rule.
 rule_of : (s : State) (M : Model) → Rel s.graph M s.book → WireRule s
@@ -121,37 +120,23 @@ cut_happens {m} {M} f x s o q small there = go (cut_sub m (slot_of M.node x) o).
 module _ {m : MultiPortGraph} {M : Model} {m' : MultiPortGraph} {M' : Model} {w : Wire} (f : Fine m M) (f' : Fine m' M') (same : SameBlocks m M m' M')
     (wires : Wiring m M m' M' none (w ∷ [])) (x : model.InnerPlace) (s : Seen m M x) (o : ℕ) (has : HasEnd w (lift x o))
     (free : (v : Wire) → WireIn m M v → HasEnd v (lift x o) → ⊥) where
-  node_same : M'.node x.node ≡ M.node x.node
-  node_same = let k = seen_live f x s in (same.0 x.node k.0 k.1).1 ∙ sym k.1.1
-
-  slot_same : slot_of M'.node x ≡ slot_of M.node x
-  slot_same = ap (λ (t : Slots). first_of t + (side_start t x.side + x.pos)) node_same
-
-  still_seen : Seen m' M' x
-  still_seen =
-      let k = seen_live f x s in
-      (subst (λ (t : Slots). x.pos < count_of t x.side) (sym node_same) s.0, (same.0 x.node k.0 k.1).0)
+  still : Seen m' M' x × (slot_of M'.node x ≡ slot_of M.node x)
+  still = seen_still f f' same x s
 
   wire_there : WireIn m' M' w
   wire_there = wires.came w (inl refl)
 
-  end_of_wire : (z : model.InnerPlace) × IsEnd m' M' z × (outer m' M' z ≡ lift x o)
-  end_of_wire =
-      let e = wire_there in
-      ⊎_elim (λ h. (e.x, e.end, sym (ap (λ (v : Wire). v.out) e.is) ∙ h))
-      (λ h. (e.y, ends_join_ends f' e.x e.y e.end e.joined, sym (ap (λ (v : Wire). v.into) e.is) ∙ h)) has
-
   brings_back : wires_walked (cut_sub m' (slot_of M.node x) o).graph ≡ wires_walked m
   brings_back =
-      let z = end_of_wire in
-      let n = end_named_lem f' x z.0 o z.1 z.2 in
-      let d = cut_happens f' x still_seen o n.1.0 n.0 n.1.1 in
-      let q : d.x ≡ x = slots_apart f'.good d.x x d.is_seen.0 still_seen.0 d.at in
+      let z = end_of_wire f' w (lift x o) wire_there has in
+      let n = end_named_lem f' x z.near o z.end z.is in
+      let d = cut_happens f' x still.0 o n.1.0 n.0 n.1.1 in
+      let q : d.x ≡ x = slots_apart f'.good d.x x d.is_seen.0 still.0.0 d.at in
       let test : end_named (cond (is_split m' (slot_of M'.node x)) o 0) d.x ≡ end_named o x =
       ap (λ (v : model.InnerPlace). end_named (cond (is_split m' (slot_of M'.node x)) o 0) v) q ∙ ap (λ (v : ℕ). end_named v x) n.2 in
       let c : Wiring m' M' (cut_sub m' (slot_of M'.node x) o).graph d.model (end_named o x) [] =
       subst (λ t. Wiring m' M' (cut_sub m' (slot_of M'.node x) o).graph d.model t []) test d.wires in
-      ap (λ (p : ℕ). wires_walked (cut_sub m' p o).graph) (sym slot_same)
+      ap (λ (p : ℕ). wires_walked (cut_sub m' p o).graph) (sym still.1)
       ∙ same_wires_same_list d.fine f (there d.model c) (back d.model c)
     where
       there : (M'' : Model) → Wiring m' M' (cut_sub m' (slot_of M'.node x) o).graph M'' (end_named o x) [] → (v : Wire) →
@@ -172,55 +157,25 @@ ends_restore : {m : MultiPortGraph} {M : Model} {m' : MultiPortGraph} {a o b r :
 ends_restore {m} {M} {m'} {a} {o} {b} {r} f l = (
   subst (Restored m m') (sym l.first_read)
       (subst (λ (p : ℕ). Restored m m' (subport# p o)) l.first_at
-      (brings_back f l.fine l.blocks l.wires l.x l.first_seen o (first_end l.x.side) l.first_free)),
+      (brings_back f l.fine l.blocks l.wires l.x l.first_seen o (end_of_sides l.x.side _ _) l.first_free)),
   subst (Restored m m') (sym l.second_read)
       (subst (λ (p : ℕ). Restored m m' (subport# p r)) l.second_at
-      (brings_back f l.fine l.blocks l.wires l.y l.second_seen r (second_end_lem l.x.side) l.second_free)),
+      (brings_back f l.fine l.blocks l.wires l.y l.second_seen r (far_of_sides l.x.side _ _) l.second_free)),
 )
-  where
-    first_end : (d : Direction) → HasEnd (wire_of_sides d (lift l.x o) (lift l.y r)) (lift l.x o)
-    first_end Incoming = inr refl
-    first_end Outgoing = inl refl
-
-    second_end_lem : (d : Direction) → HasEnd (wire_of_sides d (lift l.x o) (lift l.y r)) (lift l.y r)
-    second_end_lem Incoming = inl refl
-    second_end_lem Outgoing = inr refl
 
 -- The theorems.
 
 pub wire_rule : (release : Release) (calls : List Call) → WireRule (run release calls)
 wire_rule release calls = let r = rel_run release calls in rule_of (run release calls) r.0 r.1
 
-link_restores : {m : MultiPortGraph} {M : Model} → Fine m M → (a b : ℕ) (m' : MultiPortGraph) (v : Result (SubportIndex × SubportIndex) Refusal) (x y : SubportIndex) → LinkSays m M a b m' v →
-    v ≡ Ok (x, y) → Restored m m' x × Restored m m' y
-link_restores {m} f a b m' (Ok (s, t)) x y d e =
-    let both = ok_pair e in
-    let p : s ≡ x = both.0 in
-    let q : t ≡ y = both.1 in
-    let r = ends_restore f (ports_link d) in
-    (subst (Restored m m') p r.0, subst (Restored m m') q r.1)
-link_restores f a b m' (Err r) x y d e = absurd (zero_is_not_one (cc))
-
-link_sub_restores : {m : MultiPortGraph} {M : Model} → Fine m M → (p o q r : ℕ) (m' : MultiPortGraph) (v : Result (SubportIndex × SubportIndex) Refusal) (x y : SubportIndex) → LinkSubSays m M p o q r m' v →
-    v ≡ Ok (x, y) → Restored m m' x × Restored m m' y
-link_sub_restores {m} f p o q r m' (Ok (s, t)) x y d e =
-    let both = ok_pair e in
-    let a : s ≡ x = both.0 in
-    let b : t ≡ y = both.1 in
-    let l = ends_restore f (subports_link d) in
-    (subst (Restored m m') a l.0, subst (Restored m m') b l.1)
-link_sub_restores f p o q r m' (Err z) x y d e = absurd (zero_is_not_one (cc))
-
-restores : {m : MultiPortGraph} {M : Model} → Fine m M → (B : Book) (c : Link) (x y : SubportIndex) → LinkedBy (record { graph = m; book = B }) c x y →
-    Restored m (step m (linking c)).graph x × Restored m (step m (linking c)).graph y
-restores {m} f B (by_ports a b) x y h = link_restores f a b _ (link_pair m a b).answer x y (link_says f a b) h
-restores {m} f B (by_ports_clean a b) x y h = link_restores f a b _ (link_clean m a b).answer x y (clean_says f a b) h
-restores {m} f B (by_subports p o q r) x y h = link_sub_restores f p o q r _ (link_sub m p o q r).answer x y (link_sub_law f p o q r) h
+restores : (s : State) {M : Model} → Fine s.graph M → (c : Link) (x y : SubportIndex) → LinkedBy s c x y →
+    Restored s.graph (next s (linking c)).graph x × Restored s.graph (next s (linking c)).graph y
+restores s f c x y h = ends_restore f (one_more_wire s f c x y h).4
 
 -- a link is accepted and answers two ends: cutting either one brings back the earlier list of walked wires
 pub cut_restores : (release : Release) (calls : List Call) (c : Link) (x y : SubportIndex) → LinkedBy (run release calls) c x y →
     Restored (run release calls).graph (next (run release calls) (linking c)).graph x × Restored (run release calls).graph (next (run release calls) (linking c)).graph y
-cut_restores release calls c x y h = restores (rel_run release calls).1.fine (run release calls).book c x y h
+cut_restores release calls c x y h = restores (run release calls) (rel_run release calls).1.fine c x y h
 
 -- two links, accepted in both orders, leave as many walked wires between any two ports in either order
 pub links_in_either_order : (release : Release) (calls : List Call) (c d : Link) → accepted_link (run release calls) c → accepted_link (next (run release calls) (linking c)) d → accepted_link (run release calls) d →

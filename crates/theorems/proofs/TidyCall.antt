@@ -21,7 +21,7 @@ use Rattle.theorems.specs.PortCases.{port_is, seen_block_port, seen_hidden_port,
 use Rattle.theorems.proofs.CallLaw.{CallLaw, whole}
 
 module _ {m : MultiPortGraph} {M : Model} (f : Fine m M) (p : ℕ) where
-  tidy_is : (v : Port) → seen m p ≡ v → tidy_port m p ≡ tidy_seen m p v
+  pub tidy_is : (v : Port) → seen m p ≡ v → tidy_port m p ≡ tidy_seen m p v
   tidy_is v e = tidy_cases m p ∙ ap (tidy_seen m p) e
 
   pub tidy_refuses : (r : Refusal) → CutRefused m M p r → tidy_port m p ≡ tidy_refused m r

@@ -1,70 +1,48 @@
 -- Cursors that are held across a tidy: where blocks and wires are the same, every walk that gives wires goes on as if nothing had happened.
 use Rattle.std.specs.Prelude.{◌≡◌, Bool, true, ℕ, ◌-◌, ◌<◌, ltb, None}
 use Rattle.std.proofs.Math.Path.{refl, sym, ap}
-use Rattle.std.proofs.Common.{◌∙◌, subst, arith, eq-eqb}
+use Rattle.std.proofs.Common.{◌∙◌, subst, arith}
 use Rattle.std.proofs.Math.Bool.{false, cond}
-use mathlib.Core.List.{List, [], ◌++◌, flat_map}
+use mathlib.Core.List.{List, ◌++◌, flat_map}
 use Rattle.std.proofs.Math.Dec.{eqb}
 use Rattle.port_tables.specs.Limits.{node_slots}
 use Rattle.port_tables.specs.Lists.{range, Member, on_first, on_last}
 use Rattle.std.specs.List.{filter}
-use Rattle.port_tables.specs.Entries.{same_side, ports_from}
+use Rattle.port_tables.specs.Entries.{ports_from}
 use Rattle.portgraph.specs.Model as model
 use Rattle.portgraph.specs.Model.{Model, slot_of}
 use Rattle.portgraph.specs.GoodSlots.{slot_in_block}
-use Rattle.portgraph.specs.PlaceLaws.{node_of_meta, meta_of_node}
+use Rattle.portgraph.specs.PlaceLaws.{meta_of_node}
 use Rattle.port_tables.specs.declared.direction.Direction.{Direction}
-use Rattle.port_tables.specs.declared.direction.Direction.TheVariants.{Incoming, Outgoing}
+use Rattle.port_tables.specs.declared.direction.Direction.TheVariants.{Outgoing}
 use Rattle.port_tables.specs.declared.sides.Sides.{Sides}
 use Rattle.port_tables.specs.declared.sides.Sides.TheVariants.{One}
-use Rattle.port_tables.specs.declared.node_entry.NodeMeta.{NodeMeta}
 use Rattle.multiportgraph.specs.Reading.{owner_of, seen, port_place}
 use Rattle.multi_tables.specs.Forms.{Port, dead, hidden, visible, subport#}
 use Rattle.port_tables.specs.Places.{Place, Wire, spot, at_spot, end_on, far_from}
-use Rattle.multiportgraph.specs.WellFormed.{inner#, Fine, Seen, lift, WireIn, BlockIs, SameBlocks}
-use Rattle.multiportgraph.specs.Ends.{block_seen, seen_still, ends_join_ends, outer_seen, place_of_sub, lift_place, owner_of_lem}
+use Rattle.multiportgraph.specs.WellFormed.{inner#, Fine, Seen, lift, WireIn, SameBlocks}
+use Rattle.multiportgraph.specs.Ends.{block_seen, seen_still, lift_place, owner_of_lem}
 use Rattle.multiportgraph.specs.Wires.{is_block, blocks, side_links, all_wires, is_beyond, wires_beyond, wires_seen, step_wires, first_item, place_of}
 use Rattle.multiportgraph.specs.Walks.{between, is_seen, held_seen, both_seen, by_sides, port_links, port_links_seen, links_left, step_front, step_back, node_links, not_skipped, link_beyond, links_item, step_links, connections, connections_item, step_connections}
 use Rattle.port_tables.specs.Listing.{rising_by_items, filter_same, member_filter}
 use Rattle.multiportgraph.specs.HiddenStays.{true_not_false}
-use Rattle.multiportgraph.specs.ScanLaws.{links_from_to, ports_across, links_in_row, flat_map_same, block_not_hidden, block_has_meta}
+use Rattle.multiportgraph.specs.ScanLaws.{links_from_to, ports_across, links_in_row, flat_map_same, block_not_hidden}
 use Rattle.multiportgraph.specs.declared.multiportgraph.MultiPortGraph.{MultiPortGraph}
 use Rattle.multi_tables.specs.declared.answers.SubportLink.{SubportLink}
-use Rattle.multi_tables.specs.declared.answers.SubportIndex.{SubportIndex}
 use Rattle.multiportgraph.specs.declared.iter.Wires.{Wires}
 use Rattle.multiportgraph.specs.declared.iter.PortLinks.{PortLinks}
 use Rattle.multiportgraph.specs.declared.iter.NodeLinks.{NodeLinks}
 use Rattle.multiportgraph.specs.declared.iter.NodeConnections.{NodeConnections}
 use Rattle.theorems.specs.ListingClaims.{wire_from}
 use Rattle.theorems.specs.ListedLinks.{LinkIs, own_end, far_end, from_place, link_wire, port_link_lem, port_has_link}
-use Rattle.theorems.proofs.PortListing.{blocks_list}
-use Rattle.theorems.proofs.ListingWires.{side_link}
+use Rattle.theorems.proofs.PortListing.{is_block_lem, block_at}
+use Rattle.theorems.proofs.ListingWires.{side_link, far_of_link}
 use Rattle.theorems.specs.WalkStepLaws.{link_offset, port_links_rise}
 use Rattle.theorems.specs.TidyClaims.{WalksKept}
 use Rattle.multiportgraph.specs.SpaceLaws.{still_seen}
-
--- a place is at its own spot
-at_own : (x : model.InnerPlace) (o : ℕ) (v : Place) → v ≡ lift x o → at_spot (spot x.node x.side x.pos) v ≡ true
-unfolding at_spot
-at_own x o v e = ap (at_spot (spot x.node x.side x.pos)) e ∙ rw (eq-eqb x.node x.node refl, eq-eqb x.pos x.pos refl) (same x.side)
-  where
-    same : (d : Direction) → cond (same_side d d) true false ≡ true
-    same Incoming = refl
-    same Outgoing = refl
-
--- where the far end of a listed link stands
-record FarEnd (m : MultiPortGraph) (M : Model) (w : SubportLink) : Type 0 where
-  at : model.InnerPlace
-  offset : ℕ
-  is_seen : Seen m M at
-  is : w.to ≡ subport# (slot_of M.node at) offset
-  place : place_of m w.to ≡ lift at offset
-
-far_of_link : {m : MultiPortGraph} {M : Model} (f : Fine m M) (x : model.InnerPlace) (w : SubportLink) → LinkIs m M x w → FarEnd m M w
-far_of_link {m} f x w l =
-    let r = outer_seen f l.y (ends_join_ends f l.z l.y l.end l.joined) in
-    let e = l.far ∙ r.read in
-    record { at = r.main; offset = r.offset; is_seen = r.is_seen; is = e; place = ap (place_of m) e ∙ place_of_sub f r.main r.offset r.is_seen }
+use Rattle.multiportgraph.specs.CopyLaws.{port_at_here}
+use Rattle.theorems.specs.WalkHeldLaws.{links_unseen, wires_unseen}
+use Rattle.std.specs.Cmp.{both_ways}
 
 -- From one graph to another with the same blocks, every wire is there.
 module _ {m m' : MultiPortGraph} {M M' : Model} (f : Fine m M) (f' : Fine m' M') (same : SameBlocks m M m' M') (there : (w : Wire) → WireIn m M w → WireIn m' M' w) where
@@ -74,7 +52,7 @@ module _ {m m' : MultiPortGraph} {M M' : Model} (f : Fine m M) (f' : Fine m' M')
       let s = seen_still f f' same x l.is_seen in
       let d = x.side in
       let own = own_end d (place_of m w.from) (place_of m w.to) ∙ from_place f x w l in
-      let g = port_has_link f' x s.0 (wire_from m d w) (there (wire_from m d w) (link_wire f x w l)) (at_own x w.from.subport_offset _ own) in
+      let g = port_has_link f' x s.0 (wire_from m d w) (there (wire_from m d w) (link_wire f x w l)) (ap (at_spot (spot x.node x.side x.pos)) own ∙ port_at_here x w.from.subport_offset) in
       let k = port_link_lem f' x s.0 g.0 g.1 in
       subst (λ (q : ℕ). Member w (port_links m' q)) s.1 (subst (λ (v : SubportLink). Member v (port_links m' (slot_of M'.node x))) (is g.0 k s.1 g.2) g.1)
     where
@@ -98,15 +76,6 @@ module _ {m m' : MultiPortGraph} {M M' : Model} (f : Fine m M) (f' : Fine m' M')
           let stood : a.place ≡ w.place = k.stood ∙ (ap port_place to_here ∙ sym l.stood) in
           λ i. record { from = subport# (port i) (offset i); to = to_same i; place = stood i }
 
--- a block's port is seen as one in the other graph
-
-block_at : {m : MultiPortGraph} {M : Model} → Fine m M → (n : ℕ) → is_block m n ≡ true → (k : NodeMeta) × BlockIs m M n k
-block_at {m} f n b = let k = block_has_meta m n b in (k.0, (block_not_hidden m n b, node_of_meta f.good f.holds n k.0 k.1))
-
-is_block_lem : {m : MultiPortGraph} {M : Model} → Fine m M → (n : ℕ) (k : NodeMeta) → BlockIs m M n k → is_block m n ≡ true
-unfolding blocks
-is_block_lem {m} f n k b = (member_filter (is_block m) n (range 0 node_slots) ((blocks_list f).all n k b)).1
-
 -- Two graphs with the same blocks and the same wires.
 module _ {m m' : MultiPortGraph} {M M' : Model} (f : Fine m M) (f' : Fine m' M') (same : SameBlocks m M m' M') (there : (w : Wire) → WireIn m M w → WireIn m' M' w)
     (back : (w : Wire) → WireIn m' M' w → WireIn m M w) where
@@ -114,13 +83,9 @@ module _ {m m' : MultiPortGraph} {M M' : Model} (f : Fine m M) (f' : Fine m' M')
   other = (same.1, same.0)
 
   block_same : (n : ℕ) → is_block m' n ≡ is_block m n
-  block_same n = go (is_block m n) (is_block m' n) refl refl
-    where
-      go : (a b : Bool) → is_block m n ≡ a → is_block m' n ≡ b → b ≡ a
-      go true true p q = refl
-      go false false p q = refl
-      go true false p q = let k = block_at f n p in absurd (true_not_false (is_block_lem f' n k.0 (same.0 n k.0 k.1)) q)
-      go false true p q = let k = block_at f' n q in absurd (true_not_false (is_block_lem f n k.0 (same.1 n k.0 k.1)) p)
+  block_same n =
+      both_ways (is_block m' n) (is_block m n) (λ q. let k = block_at f' n q in is_block_lem f n k.0 (same.1 n k.0 k.1))
+      (λ p. let k = block_at f n p in is_block_lem f' n k.0 (same.0 n k.0 k.1))
 
   blocks_same : blocks m' ≡ blocks m
   unfolding blocks
@@ -170,28 +135,23 @@ module _ {m m' : MultiPortGraph} {M M' : Model} (f : Fine m M) (f' : Fine m' M')
   unfolding port_links
   ports_same p = go (seen m p) (seen m' p) refl refl (seen_alike p)
     where
-      none : (v : Port) → is_seen v ≡ false → port_links_seen m' p v ≡ []
-      none dead e = refl
-      none hidden e = refl
-      none (visible n d) e = absurd (true_not_false refl e)
-
       go : (u v : Port) → seen m p ≡ u → seen m' p ≡ v → Alike u v → port_links_seen m' p v ≡ port_links_seen m p u
       go (visible n d) v e q a =
           let b = block_seen f p n d e in
           ap (port_links_seen m' p) (sym q) ∙ (subst (λ (i : ℕ). port_links m' i ≡ port_links m i) b.slot (port_same b.place b.is_seen) ∙ ap (port_links_seen m p) e)
-      go dead v e q a = none v a
-      go hidden v e q a = none v a
+      go dead v e q a = links_unseen m' p v a
+      go hidden v e q a = links_unseen m' p v a
 
   -- The links of a block.
 
   sides_same : (n : ℕ) → is_block m n ≡ true → (sides : Sides) → by_sides (λ d. side_links m' d n) sides ≡ by_sides (λ d. side_links m d n) sides
   unfolding links_from_to
   sides_same n b sides =
-      let k = block_has_meta m n b in
-      let r = same.0 n k.0 (block_not_hidden m n b, node_of_meta f.good f.holds n k.0 k.1) in
+      let k = block_at f n b in
+      let r = same.0 n k.0 k.1 in
       links_in_row (record { model = M'; fine = f' }) n k.0 r.0 (meta_of_node f'.good f'.holds n k.0 r.1) sides
       ∙ (flat_map_same (port_links m') (port_links m) (range (ports_from k.0 sides) (ports_across k.0 sides)) (λ p i. ports_same p)
-      ∙ sym (links_in_row (record { model = M; fine = f }) n k.0 (block_not_hidden m n b) k.1 sides))
+      ∙ sym (links_in_row (record { model = M; fine = f }) n k.0 k.1.0 (meta_of_node f.good f.holds n k.0 k.1.1) sides))
 
   side_same : (n : ℕ) → is_block m n ≡ true → (d : Direction) → side_links m' d n ≡ side_links m d n
   side_same n b d = sides_same n b (One d)
@@ -227,18 +187,8 @@ module _ {m m' : MultiPortGraph} {M M' : Model} (f : Fine m M) (f' : Fine m' M')
           ap (λ (l : List ℕ). flat_map (side_links m' Outgoing) (filter (ltb n) l)) blocks_same
           ∙ all_same (filter (ltb n) (blocks m)) (λ k i. in_blocks k (member_filter (ltb n) k (blocks m) i).0) in
           ap (wires_seen m' (c.held.port - 1) c.held.offset) a ∙ (λ i. first_item (filter (is_beyond (c.held.port - 1) c.held.offset) (side_same n t Outgoing i) ++ later i))
-      go dead v e a = none v a
-        where
-          none : (v : Port) → is_seen v ≡ false → wires_seen m' (c.held.port - 1) c.held.offset v ≡ None
-          none dead e = refl
-          none hidden e = refl
-          none (visible n d) e = absurd (true_not_false refl e)
-      go hidden v e a = none v a
-        where
-          none : (v : Port) → is_seen v ≡ false → wires_seen m' (c.held.port - 1) c.held.offset v ≡ None
-          none dead e = refl
-          none hidden e = refl
-          none (visible n d) e = absurd (true_not_false refl e)
+      go dead v e a = wires_unseen m' (c.held.port - 1) c.held.offset v a
+      go hidden v e a = wires_unseen m' (c.held.port - 1) c.held.offset v a
 
       rest : wires_seen m' (c.held.port - 1) c.held.offset (seen m' (c.held.port - 1)) ≡ wires_seen m (c.held.port - 1) c.held.offset (seen m (c.held.port - 1))
       rest = go (seen m (c.held.port - 1)) (seen m' (c.held.port - 1)) refl (seen_alike (c.held.port - 1))
@@ -275,8 +225,7 @@ module _ {m m' : MultiPortGraph} {M M' : Model} (f : Fine m M) (f' : Fine m' M')
       let l = side_link f n (block_not_hidden m n b) d w i in
       let p = far_of_link f (inner# n d l.0) w l.1 in
       let s = seen_still f f' same p.at p.is_seen in
-      let q : w.to.port.0 ≡ slot_of M.node p.at = ap (λ (t : SubportIndex). t.port.0) p.is in
-      ap (owner_of m'.graph) (q ∙ sym s.1) ∙ (owner_of_lem f' p.at s.0.0 ∙ (sym (owner_of_lem f p.at p.is_seen.0) ∙ ap (owner_of m.graph) (sym q)))
+      ap (owner_of m'.graph) (p.port ∙ sym s.1) ∙ (owner_of_lem f' p.at s.0.0 ∙ (sym (owner_of_lem f p.at p.is_seen.0) ∙ ap (owner_of m.graph) (sym p.port)))
 
   connections_same : (c : NodeConnections) → step_connections m' c ≡ step_connections m c
   unfolding step_connections connections

@@ -4,13 +4,13 @@ use Rattle.std.specs.Prelude.{◌≡◌, Bool, true, false, not, ◌⊎◌, ℕ,
 use Rattle.std.proofs.Math.Path.{refl, ap}
 use Rattle.std.proofs.Common.{sym, ◌∙◌, subst, inl, inr, ⊎_elim, arith, take_at, drop_at, eqb-true, ne_eqb}
 use mathlib.Core.List.{List, [], ◌∷◌, ◌++◌}
-use Rattle.std.proofs.lemmas.Bool.{eqb-false, false_from_ne_true, or_right}
+use Rattle.std.proofs.lemmas.Bool.{eqb-false, false_from_ne_true, or_right, not-true, or_cases}
 use Rattle.port_tables.specs.Lists.{range, Member, Once, Rising}
 use Rattle.std.specs.List.{filter}
 use Rattle.port_tables.specs.Entries.{ports_on, meta_of}
 use Rattle.portgraph.specs.Model as model
 use Rattle.portgraph.specs.Model.{Model, Slots, gone, live, Valid, slot_of, first_of, side_start}
-use Rattle.portgraph.specs.GoodSlots.{slots_apart}
+use Rattle.portgraph.specs.GoodSlots.{slots_apart, slot_in_block}
 use Rattle.portgraph.specs.GoodLaws.{empty_model}
 use Rattle.port_tables.specs.declared.direction.Direction.{Direction}
 use Rattle.port_tables.specs.declared.direction.Direction.TheVariants.{Incoming, Outgoing}
@@ -18,14 +18,14 @@ use Rattle.port_tables.specs.declared.node_entry.NodeMeta.{NodeMeta}
 use Rattle.theorems.specs.Book.{empty_book, read_by, Block, Book, with_wires, spot_among, spot_of, add_wire, not_block, book_add, book_remove, book_set, book_link, book_link_sub, book_cut}
 use Rattle.port_tables.specs.Places.{without, next_offset, Place, Wire, Spot, spot, at_end, touches, wire_of_sides}
 use Rattle.multiportgraph.specs.WellFormed.{inner#, Fine, BlockIs, Seen, lift, WireIn, SameBlocks, Wiring, none, SameWires, HasEnd}
-use Rattle.theorems.specs.BookLaws.{not_so_true, or_true, left_once, wire_stays, stayed_wire, among_run, beside_run, any_touches_lem, none_touches, next_offset_lem}
+use Rattle.theorems.specs.BookLaws.{left_once, wire_stays, stayed_wire, among_run, beside_run, any_touches_lem, none_touches, next_offset_lem}
 use Rattle.port_tables.specs.Listing.{member_filter, filter_member, rising_filter, length_range}
 use Rattle.multiportgraph.specs.HiddenStays.{true_not_false}
 use Rattle.multiportgraph.specs.Ends.{out_side, into_side, ports_walked_lem}
 use Rattle.multiportgraph.specs.Reading.{is_split, as_read}
 use Rattle.multi_tables.specs.Forms.{subport#}
 use Rattle.multiportgraph.specs.LinkCutLaws.{end_is_here, end_is_same, fine_empty, empty_has_no_wire, empty_has_no_block, AddSays, LinkSubDone, LinkSubSays, CutDone, CutSays}
-use Rattle.theorems.specs.LinkLaw.{LinkDone, LinkSays}
+use Rattle.theorems.specs.LinkLaw.{LinkDone, LinkSays, end_of_sides}
 use Rattle.theorems.specs.RemoveLaws.{RemoveSays}
 use Rattle.multiportgraph.specs.SetLaws.{SetDone}
 use Rattle.multiportgraph.specs.declared.multiportgraph.MultiPortGraph.{MultiPortGraph}
@@ -123,11 +123,7 @@ module _ {m : MultiPortGraph} {M : Model} (f : Fine m M) where
           ∙ rest (⊎_elim (λ z. absurd (q (ap (λ (a : Block). a.node) (sym z) ∙ p))) (λ z. z) j)
 
   pub seen_live : (x : model.InnerPlace) → Seen m M x → (k : NodeMeta) × BlockIs m M x.node k
-  seen_live x s = go (M.node x.node) refl
-    where
-      go : (t : Slots) → M.node x.node ≡ t → (k : NodeMeta) × BlockIs m M x.node k
-      go gone e = let v : x.pos < 0 = (rw e at s).0 in absurd (omega arith)
-      go (live k) e = (k, (s.1, e))
+  seen_live x s = let r = slot_in_block f.good x s.0 in (r.0, (s.1, r.1))
 
 -- a port of a block stands in the book where it stands in the graph
 pub spot_of_lem : {m : MultiPortGraph} {M : Model} {B : Book} → Rel m M B → (x : model.InnerPlace) → Seen m M x → spot_of B.blocks (slot_of M.node x) ≡ spot x.node x.side x.pos
@@ -135,6 +131,10 @@ spot_of_lem {m} {M} {B} r x s =
     let k = seen_live r.fine x s in
     let b = r.blocks.all x.node k.0 k.1 in
     spot_in r.fine x s B.blocks r.blocks.right b.0 b.1 b.2
+
+-- by its number
+pub spot_at : {m : MultiPortGraph} {M : Model} {B : Book} → Rel m M B → (x : model.InnerPlace) → Seen m M x → (p : ℕ) → slot_of M.node x ≡ p → spot_of B.blocks p ≡ spot x.node x.side x.pos
+spot_at {B = B} r x s p at = ap (spot_of B.blocks) (sym at) ∙ spot_of_lem r x s
 
 -- What a call does to the wires.
 
@@ -192,7 +192,7 @@ module _ {m : MultiPortGraph} {M : Model} {m' : MultiPortGraph} {M' : Model} {l 
     others_right : (b : Block) → Member b (filter (not_block n) l) → Right m' M' b
     others_right b i =
         let s = member_filter (not_block n) b l i in
-        let e : eqb b.node n ≡ false = not_so_true _ s.1 in
+        let e : eqb b.node n ≡ false = not-true _ s.1 in
         still_right b s.0 (λ k. kept b.node k (eqb-false b.node n e))
 
     others_all : (k : ℕ) (a : NodeMeta) → (k ≡ n → ⊥) → BlockIs m' M' k a → (b : Block) × Member b (filter (not_block n) l) × (b.node ≡ k)
@@ -221,7 +221,7 @@ module _ {m : MultiPortGraph} {M : Model} {m' : MultiPortGraph} {M' : Model} {l 
           right = λ c h. ⊎_elim (λ q. subst (Right m' M') (sym q) (k, new, a, b)) (others_right c) h;
           all = λ j c h. go j c h (eqb j n) refl;
           once = (
-            (λ c i q. eqb-false c.node n (not_so_true _ (member_filter (not_block n) c l i).1) (sym q)),
+            (λ c i q. eqb-false c.node n (not-true _ (member_filter (not_block n) c l i).1) (sym q)),
             rising_filter OtherNode (not_block n) l r.once,
           );
         }
@@ -239,7 +239,7 @@ has_end_touches x o w (inr e) = rw e (or_right (at_end (spot x.node x.side x.pos
 
 pub touches_has_end : (x : model.InnerPlace) (o : ℕ) (w : Wire) → touches (at_end (spot x.node x.side x.pos) o) w ≡ true → HasEnd w (lift x o)
 touches_has_end x o w t =
-    ⊎_elim (λ a. inl (end_is_same (lift x o) w.out a)) (λ a. inr (end_is_same (lift x o) w.into a)) (or_true _ _ t)
+    ⊎_elim (λ a. inl (end_is_same (lift x o) w.out a)) (λ a. inr (end_is_same (lift x o) w.into a)) (or_cases _ _ t)
 
 pub offset_of_lem : {m : MultiPortGraph} {M : Model} {B : Book} → Rel m M B → (x : model.InnerPlace) (o : ℕ) →
     ((i : ℕ) → i < o → (w : Wire) × WireIn m M w × HasEnd w (lift x i)) → ((w : Wire) → WireIn m M w → HasEnd w (lift x o) → ⊥) →
@@ -249,6 +249,12 @@ offset_of_lem {m} {M} {B} r x o lower free =
     (λ w i. let h = r.wires.booked w i in (out_side r.fine w h, into_side r.fine w h))
     (λ j h. let e = lower j h in any_touches_lem _ e.0 B.wires (r.wires.walks e.0 e.1) (has_end_touches x j e.0 e.2))
     (none_touches _ B.wires (λ w i. false_from_ne_true _ (λ t. free w (r.wires.booked w i) (touches_has_end x o w t))))
+
+-- by the port's number
+pub lowest : {m : MultiPortGraph} {M : Model} {B : Book} → Rel m M B → (x : model.InnerPlace) (p o : ℕ) → Seen m M x → slot_of M.node x ≡ p →
+    ((i : ℕ) → i < o → (w : Wire) × WireIn m M w × HasEnd w (lift x i)) → ((w : Wire) → WireIn m M w → HasEnd w (lift x o) → ⊥) →
+    next_offset B.wires (spot_of B.blocks p) ≡ o
+lowest {B = B} r x p o s at lower free = ap (next_offset B.wires) (spot_at r x s p at) ∙ offset_of_lem r x o lower free
 
 -- The calls, from what they did to blocks and wires.
 
@@ -265,8 +271,8 @@ module _ {m : MultiPortGraph} {M : Model} {B : Book} (r : Rel m M B) {m' : Multi
       (WireIn m M (wire_of_sides x.side (lift x o) (lift y t)) → ⊥) →
       Rel m' M' (with_wires B (add_wire B.wires (spot_of B.blocks p) a (spot_of B.blocks q) b))
   rel_linked s x y sx sy p q ep eq o t a b ea eb w fresh =
-      let u : spot_of B.blocks p ≡ spot x.node x.side x.pos = rw (← ep) (spot_of_lem r x sx) in
-      let v : spot_of B.blocks q ≡ spot y.node y.side y.pos = rw (← eq) (spot_of_lem r y sy) in
+      let u = spot_at r x sx p ep in
+      let v = spot_at r y sy q eq in
       rw (u, v, ea, eb) (record { fine = f; blocks = blocks_same r.blocks f s; wires = wires_more r.wires w fresh })
 
 -- A call leads from one graph to another: that stands for a model too, and a book that goes with the one goes on with the other.
@@ -392,11 +398,7 @@ module _ {m : MultiPortGraph} {M : Model} (f : Fine m M) (m' : MultiPortGraph) w
 
   -- the wire that came was not there
   was_free : {a o b e : ℕ} {s t : SubportIndex} → (l : OneMore m M m' a o b e s t) → WireIn m M (wire_of_sides l.x.side (lift l.x o) (lift l.y e)) → ⊥
-  was_free {a} {o} {b} {e} l h = go l.x.side h
-    where
-      go : (d : Direction) → WireIn m M (wire_of_sides d (lift l.x o) (lift l.y e)) → ⊥
-      go Incoming k = l.first_free _ k (inr refl)
-      go Outgoing k = l.first_free _ k (inl refl)
+  was_free l h = l.first_free _ h (end_of_sides l.x.side _ _)
 
   pub after_link : (a b : ℕ) (x : Result (SubportIndex × SubportIndex) Refusal) → LinkSays m M a b m' x → Leads m M m' (λ B. book_link B a b x)
   unfolding ports_link
@@ -406,11 +408,9 @@ module _ {m : MultiPortGraph} {M : Model} (f : Fine m M) (m' : MultiPortGraph) w
         model = l.model;
         fine = l.fine;
         booked = λ B r.
-            let u : spot_of B.blocks a ≡ spot l.x.node l.x.side l.x.pos = ap (spot_of B.blocks) (sym l.first_at) ∙ spot_of_lem r l.x l.first_seen in
-            let v : spot_of B.blocks b ≡ spot l.y.node l.y.side l.y.pos = ap (spot_of B.blocks) (sym l.second_at) ∙ spot_of_lem r l.y l.second_seen in
             rel_linked r l.fine l.blocks l.x l.y l.first_seen l.second_seen a b l.first_at l.second_at d.o d.r _ _
-            (ap (next_offset B.wires) u ∙ offset_of_lem r l.x d.o d.first_lower l.first_free)
-            (ap (next_offset B.wires) v ∙ offset_of_lem r l.y d.r d.second_lower l.second_free) l.wires (was_free l);
+            (lowest r l.x a d.o l.first_seen l.first_at d.first_lower l.first_free)
+            (lowest r l.y b d.r l.second_seen l.second_at d.second_lower l.second_free) l.wires (was_free l);
       }
   after_link a b (Err e) d = record { model = d.model; fine = d.fine; booked = λ B r. rel_same r d.fine d.blocks d.wires }
 
@@ -435,7 +435,7 @@ module _ {m : MultiPortGraph} {M : Model} (f : Fine m M) (m' : MultiPortGraph) w
           record {
             model = k.model;
             fine = k.fine;
-            booked = λ B r. rel_cut r k.fine k.blocks _ _ (sym (same k.x) ∙ ap test (sym (rw (← k.at) (spot_of_lem r k.x k.is_seen)))) k.wires;
+            booked = λ B r. rel_cut r k.fine k.blocks _ _ (sym (same k.x) ∙ ap test (sym (spot_at r k.x k.is_seen p k.at))) k.wires;
           }
 
       go : (a : Result (Option (SubportIndex × PortPlace)) Refusal) → CutSays m M p dropped m' a → Leads m M m' (λ B. book_cut B (test (spot_of B.blocks p)) a)

@@ -1,18 +1,17 @@
 -- The cursor over all wires that holds a port and offset, on whatever the graph is by then: a step gives the first item of the present
 -- listing beyond them, counted from that port's present block. Either the item lies in that block, at a later port or at a later offset of
 -- that port, or in a later block; where there is none the step ends the walk. Also where the port held is an incoming one.
-use Rattle.std.specs.Prelude.{◌≡◌, Bool, ◌⊎◌, ◌↔◌, ltb, length, Option, Some, None, Result, Ok, Err}
+use Rattle.std.specs.Prelude.{◌≡◌, Bool, ◌⊎◌, ◌↔◌, ltb, length, Some, None}
 use Rattle.std.proofs.Math.Path.{refl, sym, ap}
 use Rattle.std.proofs.Common.{◌∙◌, subst, arith}
 use Rattle.std.proofs.Math.Bool.{true, false, cond}
-use mathlib.Core.List.{List, [], ◌∷◌, ◌++◌, map}
+use mathlib.Core.List.{List, [], ◌∷◌, ◌++◌}
 use Rattle.std.proofs.Math.Logic.{inl, inr, ⊎_elim}
-use Prim.Native.Nat.{ℕ, zero, suc, ◌-◌, ◌<◌}
+use Prim.Native.Nat.{ℕ, zero, suc, ◌<◌}
 use Rattle.std.proofs.Math.Dec.{eqb}
 use borrow.Author.Tests.{ltb-true, eqb-true, lt-ltb, le-ltb, eq-eqb, ne_eqb}
 use Rattle.port_tables.specs.Lists.{range, Member, Rising}
 use Rattle.std.specs.List.{filter}
-use Rattle.portgraph.specs.Lookups.{num_ports}
 use Rattle.portgraph.specs.Model as model
 use Rattle.portgraph.specs.Model.{Model, live}
 use Rattle.portgraph.specs.GoodSlots.{zero_is_not_one, slot_in_block}
@@ -20,13 +19,13 @@ use Rattle.port_tables.specs.declared.direction.Direction.{Direction}
 use Rattle.port_tables.specs.declared.direction.Direction.TheVariants.{Outgoing}
 use Rattle.port_tables.specs.declared.node_entry.NodeMeta.{NodeMeta}
 use Rattle.port_tables.specs.declared.release.Release.{Release}
-use Rattle.multiportgraph.specs.Reading.{seen, owner_of, is_split, subports, port_of, end_at, link_of_end}
-use Rattle.multi_tables.specs.Forms.{Port, dead, hidden, visible, subport#, wire_to}
+use Rattle.multiportgraph.specs.Reading.{seen, owner_of}
+use Rattle.multi_tables.specs.Forms.{Port, dead, hidden, visible}
 use Rattle.multiportgraph.specs.WellFormed.{inner#, Fine, Seen}
-use Rattle.multiportgraph.specs.Ends.{owner_of_lem, port_of_lem, count_of_lem, seen_block, block_seen}
-use Rattle.multiportgraph.specs.Wires.{blocks, ports_of_side, subports_of_port, subports_of_side, wire_of, side_links, all_wires, is_beyond, first_item, wires_beyond, wires_seen, step_wires, walk_by, walked_on, walk_wires}
+use Rattle.multiportgraph.specs.Ends.{owner_of_lem, seen_block, block_seen}
+use Rattle.multiportgraph.specs.Wires.{blocks, ports_of_side, subports_of_port, subports_of_side, wire_of, side_links, all_wires, is_beyond, first_item, wires_beyond, wires_seen, step_wires, walk_by, walked_on, walk_wires, is_block}
 use Rattle.multiportgraph.specs.Walks.{is_seen}
-use Rattle.port_tables.specs.Listing.{member_filter, member_flat_map, flat_map_member, member_range, filter_flat_map, flat_map_beyond, filter_all, rising_map, rising_flat_map, range_rises}
+use Rattle.port_tables.specs.Listing.{member_filter, member_flat_map, filter_flat_map, flat_map_beyond, filter_all, rising_flat_map}
 use Rattle.theorems.proofs.PortListing.{blocks_list, side_listed}
 use Rattle.theorems.specs.Book.{Call}
 use Rattle.theorems.specs.History.{run}
@@ -36,12 +35,17 @@ use Rattle.multiportgraph.specs.declared.multiportgraph.MultiPortGraph.{MultiPor
 use Rattle.multi_tables.specs.declared.answers.SubportIndex.{SubportIndex}
 use Rattle.multi_tables.specs.declared.answers.SubportLink.{SubportLink}
 use Rattle.multiportgraph.specs.declared.iter.Wires.{Wires}
-use Rattle.multi_tables.specs.declared.answers.Refusal.{Refusal}
-use Rattle.multi_tables.specs.declared.answers.PortPlace.{PortPlace}
-use Rattle.portgraph.specs.WalkLaws.{one_less}
-use Rattle.multiportgraph.specs.ScanLaws.{subport_stands}
+use Rattle.multiportgraph.specs.ScanLaws.{subport_stands, wire_stands}
 use Rattle.multiportgraph.specs.WalkRule.{blocks_rise}
 use Rattle.std.proofs.lemmas.Option.{some_pair_parts}
+use Rattle.theorems.specs.WalkHeldLaws.{step_holding, wires_end as gone_ends}
+use Rattle.theorems.specs.Cursors.{rising_as}
+use Rattle.theorems.specs.BlockWalkLaws.{block_links_rise}
+use Rattle.theorems.specs.WalkStepLaws.{link_offset}
+use Rattle.std.proofs.lemmas.Bool.{false_from_ne_true}
+use Rattle.port_tables.specs.declared.sides.Sides.TheVariants.{One}
+use Rattle.port_tables.specs.Limits.{node_slots}
+use Rattle.theorems.specs.BlockWalkLaws as places
 
 module _ (m : MultiPortGraph) (n p o : ℕ) (w : SubportLink) where
   lies_so : lies_beyond m n p o w ≡ true → Beyond m n p o w
@@ -62,19 +66,12 @@ module _ (m : MultiPortGraph) (n p o : ℕ) (w : SubportLink) where
 
 -- Items of the listing start at ports of their block.
 
-from_here : (s : SubportIndex) (v : Result (Option (SubportIndex × PortPlace)) Refusal) (w : SubportLink) → Member w (wire_to s v) → w.from ≡ s
-from_here s (Ok (Some (t, x))) w (inl e) = ap (λ (v : SubportLink). v.from) e
-from_here s (Ok (Some (t, x))) w (inr i) = absurd i
-from_here s (Ok None) w i = absurd i
-from_here s (Err r) w i = absurd i
-
 item_port : (m : MultiPortGraph) (d : Direction) (n : ℕ) (w : SubportLink) → Member w (side_links m d n) → Member w.from.port.0 (ports_of_side m d n)
-unfolding side_links subports_of_side wire_of
+unfolding side_links subports_of_side
 item_port m d n w i =
     let a = member_flat_map (wire_of m d) w (subports_of_side m n d) i in
     let b = member_flat_map (subports_of_port m d) a.0 (ports_of_side m d n) a.1 in
-    let e : w.from ≡ a.0 = from_here a.0 (link_of_end m a.0.port.0 (end_at m a.0.port.0 d a.0.subport_offset)) w a.2 in
-    let q : w.from.port.0 ≡ b.0 = ap (λ (t : SubportIndex). t.port.0) e ∙ subport_stands m d b.0 a.0 b.2 in
+    let q : w.from.port.0 ≡ b.0 = ap (λ (t : SubportIndex). t.port.0) (wire_stands m d a.0 w a.2) ∙ subport_stands m d b.0 a.0 b.2 in
     subst (λ (p : ℕ). Member p (ports_of_side m d n)) (sym q) b.1
 
 module _ {m : MultiPortGraph} {M : Model} (f : Fine m M) where
@@ -110,11 +107,7 @@ module _ {m : MultiPortGraph} {M : Model} (f : Fine m M) where
       block_of x s = let r = slot_in_block f.good x s.0 in (r.0, r.1)
 
   step_held : (c : Wires) (p n : ℕ) (d : Direction) → c.held.port ≡ suc p → seen m p ≡ visible n d → step_wires m c ≡ first_item (filter (lies_beyond m n p c.held.offset) (all_wires m))
-  unfolding step_wires
-  step_held c p n d h e =
-      ap (λ (k : ℕ). cond (eqb k 0) (first_item (all_wires m)) (wires_seen m (k - 1) c.held.offset (seen m (k - 1)))) h
-      ∙ (rw (ne_eqb (suc p) 0 (λ z. omega arith), one_less p) (ap (wires_seen m p c.held.offset) e)
-      ∙ ap first_item (left_is n (block_listed p n d e) p c.held.offset))
+  step_held c p n d h e = step_holding m c p h ∙ (ap (wires_seen m p c.held.offset) e ∙ ap first_item (left_is n (block_listed p n d e) p c.held.offset))
 
 -- The first item that passes a test.
 
@@ -162,14 +155,9 @@ module _ {m : MultiPortGraph} {M : Model} (f : Fine m M) (c : Wires) (p : ℕ) (
 
   -- the port held is a block's
   item_seen : (v : Port) → seen m p ≡ v → (w : SubportLink) (d : Wires) → step_wires m c ≡ Some (w, d) → (n : ℕ) × (s : Direction) × (seen m p ≡ visible n s)
-  unfolding step_wires
   item_seen (visible n s) e w d g = (n, s, e)
-  item_seen dead e w d g =
-      let z : step_wires m c ≡ None = ap (λ (k : ℕ). cond (eqb k 0) (first_item (all_wires m)) (wires_seen m (k - 1) c.held.offset (seen m (k - 1)))) held ∙ rw (ne_eqb (suc p) 0 (λ z. omega arith), one_less p) (ap (wires_seen m p c.held.offset) e) in
-      absurd (zero_is_not_one (cc))
-  item_seen hidden e w d g =
-      let z : step_wires m c ≡ None = ap (λ (k : ℕ). cond (eqb k 0) (first_item (all_wires m)) (wires_seen m (k - 1) c.held.offset (seen m (k - 1)))) held ∙ rw (ne_eqb (suc p) 0 (λ z. omega arith), one_less p) (ap (wires_seen m p c.held.offset) e) in
-      absurd (zero_is_not_one (cc))
+  item_seen dead e w d g = let z = gone_ends m c p held (ap is_seen e) in absurd (zero_is_not_one (cc))
+  item_seen hidden e w d g = let z = gone_ends m c p held (ap is_seen e) in absurd (zero_is_not_one (cc))
 
   ends : (v : Port) → seen m p ≡ v → step_wires m c ≡ None → (is_seen (seen m p) ≡ false) ⊎ ((n : ℕ) × (s : Direction) × (seen m p ≡ visible n s) × ((w : SubportLink) → Member w (all_wires m) → Beyond m n p c.held.offset w → ⊥))
   ends dead e g = inl (ap is_seen e)
@@ -207,10 +195,6 @@ wires_end release calls c p h g = ends (run_kept release calls).fine c p h (seen
 abbrev Ahead : MultiPortGraph → SubportLink → SubportLink → Type 0
 Ahead m v w = Beyond m (block_of_item m v) v.from.port.0 v.from.subport_offset w
 
--- subports ascend by port, then offset
-abbrev Below : SubportIndex → SubportIndex → Type 0
-Below s t = (s.port.0 < t.port.0) ⊎ ((s.port.0 ≡ t.port.0) × (s.subport_offset < t.subport_offset))
-
 module _ (m : MultiPortGraph) where
   not_itself : (w : SubportLink) → Ahead m w w → ⊥
   not_itself w (later_offset e d k) = omega arith
@@ -240,11 +224,7 @@ module _ (m : MultiPortGraph) where
   on_from n p o w v (later_block k) (later_block k') = later_block (omega arith)
 
   not_lies : (n p o : ℕ) (w : SubportLink) → (Beyond m n p o w → ⊥) → lies_beyond m n p o w ≡ false
-  not_lies n p o w h = go (lies_beyond m n p o w) refl
-    where
-      go : (b : Bool) → lies_beyond m n p o w ≡ b → lies_beyond m n p o w ≡ false
-      go true e = absurd (h (lies_so m n p o w e))
-      go false e = e
+  not_lies n p o w h = false_from_ne_true (lies_beyond m n p o w) (λ t. h (lies_so m n p o w t))
 
 -- what is left after an item of an ascending list
 rest_after : (m : MultiPortGraph) (n p o : ℕ) (w : SubportLink) (r l : List SubportLink) → Rising (Ahead m) l → filter (lies_beyond m n p o) l ≡ w ∷ r →
@@ -271,60 +251,18 @@ rest_after m n p o w r (x ∷ l) rise e = go (lies_beyond m n p o x) refl (rest_
         rw none (k h)
 
 module _ {m : MultiPortGraph} {M : Model} (f : Fine m M) where
-  ports_rise : (n : ℕ) (d : Direction) → Rising ◌<◌ (ports_of_side m d n)
-  unfolding ports_of_side
-  ports_rise n d =
-      rising_map ◌<◌ ◌<◌ (port_of m.graph n d) (range 0 (num_ports m.graph n d)) (range_rises 0 (num_ports m.graph n d))
-      (λ a c i j l.
-      let u = member_range a 0 (num_ports m.graph n d) i in
-      let v = member_range c 0 (num_ports m.graph n d) j in
-      let t = count_of_lem f n d in
-      let x = port_of_lem f n d a (omega arith) in
-      let y = port_of_lem f n d c (omega arith) in
-      omega arith)
-
-  offsets_rise : (d : Direction) (p : ℕ) → Rising Below (subports_of_port m d p)
-  unfolding subports_of_port
-  offsets_rise d p = go (is_split m p)
-    where
-      go : (b : Bool) → Rising Below (cond b (map (subport# p) (range 0 (subports m p d))) (subport# p 0 ∷ []))
-      go true = rising_map ◌<◌ Below (subport# p) (range 0 (subports m p d)) (range_rises 0 (subports m p d)) (λ a c i j l. inr (refl, l))
-      go false = ((λ y i. absurd i), tt)
-
-  subports_rise : (n : ℕ) (d : Direction) → Rising Below (subports_of_side m n d)
-  unfolding subports_of_side
-  subports_rise n d =
-      rising_flat_map ◌<◌ Below (subports_of_port m d) (ports_of_side m d n) (ports_rise n d) (λ p i. offsets_rise d p)
-      (λ p q s t i j l h k.
-      let a = subport_stands m d p s h in
-      let b = subport_stands m d q t k in
-      inl (omega arith))
-
-  one_rises : (s : SubportIndex) (v : Result (Option (SubportIndex × PortPlace)) Refusal) → Rising (Ahead m) (wire_to s v)
-  one_rises s (Ok (Some (t, x))) = ((λ y i. absurd i), tt)
-  one_rises s (Ok None) = tt
-  one_rises s (Err r) = tt
-
-  side_rises : (n : ℕ) → Rising (Ahead m) (side_links m Outgoing n)
-  unfolding side_links wire_of
-  side_rises n =
-      rising_flat_map Below (Ahead m) (wire_of m Outgoing) (subports_of_side m n Outgoing) (subports_rise n Outgoing)
-      (λ s i. one_rises s (link_of_end m s.port.0 (end_at m s.port.0 Outgoing s.subport_offset)))
-      (λ s t v w i j l h k.
-      let a = item_block f n v (flat_map_member (wire_of m Outgoing) v s (subports_of_side m n Outgoing) i h) in
-      let b = item_block f n w (flat_map_member (wire_of m Outgoing) w t (subports_of_side m n Outgoing) j k) in
-      let x = from_here s (link_of_end m s.port.0 (end_at m s.port.0 Outgoing s.subport_offset)) v h in
-      let y = from_here t (link_of_end m t.port.0 (end_at m t.port.0 Outgoing t.subport_offset)) w k in
-      let p : v.from.port.0 ≡ s.port.0 = ap (λ (z : SubportIndex). z.port.0) x in
-      let q : w.from.port.0 ≡ t.port.0 = ap (λ (z : SubportIndex). z.port.0) y in
-      let c : v.from.subport_offset ≡ s.subport_offset = ap (λ (z : SubportIndex). z.subport_offset) x in
-      let e : w.from.subport_offset ≡ t.subport_offset = ap (λ (z : SubportIndex). z.subport_offset) y in
-      ⊎_elim (λ r. later_port (b ∙ sym a) (omega arith)) (λ r. let r0 = r.0 in let r1 = r.1 in later_offset (b ∙ sym a) (omega arith) (omega arith)) l)
+  side_rises : (n : ℕ) → is_block m n ≡ true → Rising (Ahead m) (side_links m Outgoing n)
+  side_rises n b =
+      rising_as (places.Ahead places.link_port link_offset) (Ahead m) (side_links m Outgoing n)
+      (λ v w i j a.
+      let q = item_block f n w j ∙ sym (item_block f n v i) in
+      ⊎_elim (λ l. later_port q l) (λ l. later_offset q (sym l.0) l.1) a)
+      (block_links_rise (record { model = M; fine = f }) n b (One Outgoing))
 
   wires_rise : Rising (Ahead m) (all_wires m)
-  unfolding all_wires
+  unfolding all_wires blocks
   wires_rise =
-      rising_flat_map ◌<◌ (Ahead m) (side_links m Outgoing) (blocks m) (blocks_rise m) (λ n i. side_rises n)
+      rising_flat_map ◌<◌ (Ahead m) (side_links m Outgoing) (blocks m) (blocks_rise m) (λ n i. side_rises n (member_filter (is_block m) n (range 0 node_slots) i).1)
       (λ a c v w i j l h k.
       let x = item_block f a v h in
       let y = item_block f c w k in

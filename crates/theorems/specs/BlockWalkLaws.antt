@@ -1,5 +1,6 @@
 -- The walks of a block, over its ports, subports, links, neighbours and connections: on a graph of the calls each gives its listing
 -- whole, in order, and then the end; from any cursor it gives what the cursor leaves of the listing.
+use Rattle.std.proofs.lemmas.List.{length-map}
 use Rattle.std.specs.Prelude.{◌≡◌, Bool, ◌⊎◌, leb, ltb, Option, Some, None, Ok}
 use Rattle.std.proofs.Math.Path.{refl, sym, ap}
 use Rattle.std.proofs.Common.{◌∙◌, subst, inr, ⊎_elim, arith}
@@ -23,11 +24,11 @@ use Rattle.port_tables.specs.declared.sides.Sides.TheVariants.{One, Both}
 use Rattle.multiportgraph.specs.Reading.{owner_of, is_hidden, seen}
 use Rattle.multi_tables.specs.Forms.{Port, dead, hidden, visible}
 use Rattle.multiportgraph.specs.Wires.{is_block, side_links, is_beyond, ports_of_side}
-use Rattle.multiportgraph.specs.Walks.{Start, started, refused, start_at_node, start_between, is_seen, held_seen, both_seen, by_sides, ports_of_node, step_node_ports, subports_of, subport_beyond, step_subports, port_links_seen, port_links, not_skipped, node_links, link_beyond, links_item, step_links, not_ignored, neighbour_links, neighbours, neighbours_item, step_neighbours, connections, connections_item, step_connections, node_ports_from, start_node_ports, subports_from, start_subports, links_from, start_links, neighbours_from, start_neighbours, connections_from, start_connections}
+use Rattle.multiportgraph.specs.Walks.{started, refused, start_at_node, start_between, is_seen, held_seen, both_seen, by_sides, ports_of_node, step_node_ports, subports_of, subport_beyond, step_subports, port_links_seen, port_links, not_skipped, node_links, link_beyond, links_item, step_links, not_ignored, neighbour_links, neighbours, neighbours_item, step_neighbours, connections, connections_item, step_connections, node_ports_from, start_node_ports, subports_from, start_subports, links_from, start_links, neighbours_from, start_neighbours, connections_from, start_connections}
 use Rattle.multiportgraph.specs.WellFormed.{MultiWf}
-use Rattle.port_tables.specs.Listing.{member_flat_map, member_range, member_filter, filter_all, rising_filter, rising_flat_map, range_rises, member_append, filter_same, length_map}
-use Rattle.multiportgraph.specs.ScanLaws.{is_past, past_later, past_here, past_earlier, links_from_to, subports_from_to, subports_seen, subports_at, link_at_port, subport_at_port, links_in_row, subports_in_row, ports_in_row, block_not_hidden, block_has_meta, port_seen_there, ports_across, side_in_row}
-use Rattle.theorems.specs.Cursors.{Stepped, item, end, walk, Listed, Fronts, walk_front, first_if, rising_as, walk_nothing}
+use Rattle.port_tables.specs.Listing.{member_flat_map, member_range, member_filter, filter_all, rising_filter, rising_flat_map, range_rises, member_append, filter_same}
+use Rattle.multiportgraph.specs.ScanLaws.{first_if, is_past, past_later, past_here, past_earlier, links_from_to, subports_from_to, subports_seen, subports_at, link_at_port, subport_at_port, links_in_row, subports_in_row, ports_in_row, block_not_hidden, block_has_meta, port_seen_there, ports_across, side_in_row}
+use Rattle.theorems.specs.Cursors.{Stepped, item, end, walk, Listed, Fronts, walk_front, rising_as, walk_nothing}
 use Rattle.multiportgraph.specs.declared.multiportgraph.MultiPortGraph.{MultiPortGraph}
 use Rattle.multi_tables.specs.declared.answers.SubportIndex.{SubportIndex}
 use Rattle.multi_tables.specs.declared.answers.SubportLink.{SubportLink}
@@ -37,7 +38,7 @@ use Rattle.multiportgraph.specs.declared.iter.NodeLinks.{NodeLinks}
 use Rattle.multiportgraph.specs.declared.iter.Neighbours.{Neighbours}
 use Rattle.multiportgraph.specs.declared.iter.NodeConnections.{NodeConnections}
 use Rattle.multi_tables.specs.declared.answers.Refusal.TheVariants.{UnknownNode, HiddenNode}
-use Rattle.theorems.specs.WalkStepLaws.{seen_stays, subport_offset, link_offset, subports_of_port_rise, port_links_rise}
+use Rattle.theorems.specs.WalkStepLaws.{seen_stays, subport_offset, link_offset, subports_of_port_rise, port_links_rise, start_gives}
 use Rattle.port_tables.specs.declared.index.PortIndex.{PortIndex}
 use Rattle.portgraph.specs.Walks.{whole}
 
@@ -210,7 +211,7 @@ both_stays m n h p b s = rw (both_block m n h b) (seen_stays m p s)
 
 -- What is listed of a block ascends, at ports that are seen.
 
-abbrev link_port : SubportLink → ℕ
+abbrev pub link_port : SubportLink → ℕ
 link_port w = w.from.port.0
 
 abbrev subport_port : SubportIndex → ℕ
@@ -251,6 +252,13 @@ rows_rise port offset f stands up a c =
     (λ p i. rising_as (λ x y. offset x < offset y) (Ahead port offset) (f p) (λ x y i j l. inr (stands p x i ∙ sym (stands p y j), l)) (up p))
     (λ p q x y i j l h k. let u = stands p x h in let v = stands q y k in inl (omega arith))
 
+-- and stand at ports that are seen
+rows_seen : {A : Type 0} (m : MultiPortGraph) (port : A → ℕ) (f : ℕ → List A) → ((p : ℕ) (x : A) → Member x (f p) → port x ≡ p) → ((p : ℕ) (x : A) → Member x (f p) → is_seen (seen m p) ≡ true) →
+    (a c : ℕ) (x : A) → Member x (flat_map f (range a c)) → is_seen (seen m (port x)) ≡ true
+rows_seen m port f stands shown a c x i =
+    let g = member_flat_map f x (range a c) i in
+    ap (λ (p : ℕ). is_seen (seen m p)) (stands g.0 x g.2) ∙ shown g.0 x g.2
+
 links_row_rises : (m : MultiPortGraph) (a c : ℕ) → Rising (Ahead link_port link_offset) (links_from_to m a c)
 unfolding links_from_to
 links_row_rises m a c = rows_rise link_port link_offset (port_links m) (link_at_port m) (port_links_rise m) a c
@@ -261,15 +269,11 @@ subports_row_rises m a c = rows_rise subport_port subport_offset (subports_at m)
 
 links_row_seen : (m : MultiPortGraph) (a c : ℕ) (v : SubportLink) → Member v (links_from_to m a c) → is_seen (seen m (link_port v)) ≡ true
 unfolding links_from_to
-links_row_seen m a c v i =
-    let g = member_flat_map (port_links m) v (range a c) i in
-    ap (λ (p : ℕ). is_seen (seen m p)) (link_at_port m g.0 v g.2) ∙ link_seen_lem m g.0 v g.2
+links_row_seen m a c = rows_seen m link_port (port_links m) (link_at_port m) (link_seen_lem m) a c
 
 subports_row_seen : (m : MultiPortGraph) (a c : ℕ) (s : SubportIndex) → Member s (subports_from_to m a c) → is_seen (seen m (subport_port s)) ≡ true
 unfolding subports_from_to
-subports_row_seen m a c s i =
-    let g = member_flat_map (subports_at m) s (range a c) i in
-    ap (λ (p : ℕ). is_seen (seen m p)) (subport_at_port m g.0 s g.2) ∙ subport_seen m g.0 s g.2
+subports_row_seen m a c = rows_seen m subport_port (subports_at m) (subport_at_port m) (subport_seen m) a c
 
 pub by_sides_member : {A : Type 0} (g : Direction → List A) (sides : Sides) (x : A) → Member x (by_sides g sides) → (d : Direction) × Member x (g d)
 by_sides_member g (One d) x i = (d, i)
@@ -485,55 +489,35 @@ module _ {m : MultiPortGraph} (w : MultiWf m) where
 module _ (m : MultiPortGraph) (n : NodeIndex) (sides : Sides) where
   pub node_ports_at_start : (c : NodePorts) → start_node_ports m n sides ≡ Ok c → node_ports_left m c ≡ ports_of_node m n.0 sides
   unfolding node_ports_left
-  node_ports_at_start c e = go (start_at_node m n.0) refl e
-    where
-      go : (s : Start) → start_at_node m n.0 ≡ s → node_ports_from n sides s ≡ Ok c → node_ports_left m c ≡ ports_of_node m n.0 sides
-      go started d e =
-          let q : node_ports_at n sides 0 0 ≡ c = cc in
-          ap (node_ports_left m) (sym q) ∙ rw (started_block m n.0 d) (filter_all (leb 0) (ports_of_node m n.0 sides) (λ p i. le-leb 0 p (omega arith)))
-      go (refused r) d e = absurd (zero_is_not_one (cc))
+  node_ports_at_start c e =
+      let k = start_gives (node_ports_from n sides) (node_ports_at n sides 0 0) refl (λ r. refl) (start_at_node m n.0) c e in
+      ap (node_ports_left m) (sym k.1) ∙ rw (started_block m n.0 k.0) (filter_all (leb 0) (ports_of_node m n.0 sides) (λ p i. le-leb 0 p (omega arith)))
 
   pub subports_at_start : (c : NodeSubports) → start_subports m n sides ≡ Ok c → subports_left m c ≡ subports_of m n.0 sides
   unfolding subports_left subport_beyond
-  subports_at_start c e = go (start_at_node m n.0) refl e
-    where
-      go : (s : Start) → start_at_node m n.0 ≡ s → subports_from n sides s ≡ Ok c → subports_left m c ≡ subports_of m n.0 sides
-      go started d e =
-          let q : subports_cursor n sides 0 0 ≡ c = cc in
-          ap (subports_left m) (sym q) ∙ rw (started_block m n.0 d) (filter_all (subport_beyond 0 0) (subports_of m n.0 sides) (λ s i. refl))
-      go (refused r) d e = absurd (zero_is_not_one (cc))
+  subports_at_start c e =
+      let k = start_gives (subports_from n sides) (subports_cursor n sides 0 0) refl (λ r. refl) (start_at_node m n.0) c e in
+      ap (subports_left m) (sym k.1) ∙ rw (started_block m n.0 k.0) (filter_all (subport_beyond 0 0) (subports_of m n.0 sides) (λ s i. refl))
 
   pub node_links_at_start : (lo hi : ℕ) (c : NodeLinks) → start_links m n sides lo hi ≡ Ok c → node_links_left m c ≡ node_links m n.0 sides lo hi
   unfolding node_links_left
-  node_links_at_start lo hi c e = go (start_at_node m n.0) refl e
-    where
-      go : (s : Start) → start_at_node m n.0 ≡ s → links_from n sides lo hi s ≡ Ok c → node_links_left m c ≡ node_links m n.0 sides lo hi
-      go started d e =
-          let q : links_cursor n sides lo hi 0 0 ≡ c = cc in
-          ap (node_links_left m) (sym q) ∙ rw (started_block m n.0 d) (filter_all (link_beyond 0 0) (node_links m n.0 sides lo hi) (λ v i. refl))
-      go (refused r) d e = absurd (zero_is_not_one (cc))
+  node_links_at_start lo hi c e =
+      let k = start_gives (links_from n sides lo hi) (links_cursor n sides lo hi 0 0) refl (λ r. refl) (start_at_node m n.0) c e in
+      ap (node_links_left m) (sym k.1) ∙ rw (started_block m n.0 k.0) (filter_all (link_beyond 0 0) (node_links m n.0 sides lo hi) (λ v i. refl))
 
   pub neighbours_at_start : (flag : Bool) (c : Neighbours) → start_neighbours m n sides flag ≡ Ok c → neighbours_left m c ≡ neighbour_links m n.0 sides flag
   unfolding neighbours_left
-  neighbours_at_start flag c e = go (start_at_node m n.0) refl e
-    where
-      go : (s : Start) → start_at_node m n.0 ≡ s → neighbours_from n sides flag s ≡ Ok c → neighbours_left m c ≡ neighbour_links m n.0 sides flag
-      go started d e =
-          let q : neighbours_cursor n sides flag 0 0 ≡ c = cc in
-          ap (neighbours_left m) (sym q) ∙ rw (started_block m n.0 d) (filter_all (link_beyond 0 0) (neighbour_links m n.0 sides flag) (λ v i. refl))
-      go (refused r) d e = absurd (zero_is_not_one (cc))
+  neighbours_at_start flag c e =
+      let k = start_gives (neighbours_from n sides flag) (neighbours_cursor n sides flag 0 0) refl (λ r. refl) (start_at_node m n.0) c e in
+      ap (neighbours_left m) (sym k.1) ∙ rw (started_block m n.0 k.0) (filter_all (link_beyond 0 0) (neighbour_links m n.0 sides flag) (λ v i. refl))
 
 pub connections_at_start : (m : MultiPortGraph) (n k : NodeIndex) (c : NodeConnections) → start_connections m n k ≡ Ok c →
     connections_left m c ≡ connections m n.0 k.0
 unfolding connections_left
-connections_at_start m n k c e = go (start_between m n.0 k.0) refl e
-  where
-    go : (s : Start) → start_between m n.0 k.0 ≡ s → connections_from n k s ≡ Ok c → connections_left m c ≡ connections m n.0 k.0
-    go started d e =
-        let q : connections_cursor n k 0 0 ≡ c = cc in
-        let b = started_blocks m n.0 k.0 d in
-        ap (connections_left m) (sym q) ∙ rw (b.0, b.1) (filter_all (link_beyond 0 0) (connections m n.0 k.0) (λ v i. refl))
-    go (refused r) d e = absurd (zero_is_not_one (cc))
+connections_at_start m n k c e =
+    let s = start_gives (connections_from n k) (connections_cursor n k 0 0) refl (λ r. refl) (start_between m n.0 k.0) c e in
+    let b = started_blocks m n.0 k.0 s.0 in
+    ap (connections_left m) (sym s.1) ∙ rw (b.0, b.1) (filter_all (link_beyond 0 0) (connections m n.0 k.0) (λ v i. refl))
 
 -- So from its start each walk gives its listing, whole and in order, and then the end.
 
@@ -555,7 +539,7 @@ module _ {m : MultiPortGraph} (w : MultiWf m) (n : NodeIndex) (sides : Sides) (f
   unfolding neighbours
   neighbours_whole flag c e h =
       let q = neighbours_at_start m n sides flag c e in
-      let s = length_map (neighbour_of m) (neighbour_links m n.0 sides flag) in
+      let s = length-map (neighbour_links m n.0 sides flag) (neighbour_of m) in
       rw q at (neighbours_forward w c fuel (rw q (omega arith)))
 
 pub connections_whole : {m : MultiPortGraph} → MultiWf m → (n k : NodeIndex) (fuel : ℕ) (c : NodeConnections) → start_connections m n k ≡ Ok c →

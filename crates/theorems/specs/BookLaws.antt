@@ -1,11 +1,11 @@
 -- Laws of the wire book and its lists: which wires and blocks are left by a test, where a port stands among blocks whose ports
 -- are runs of slots, which offset is the lowest unwired one, and how many wires of a list pass a test.
 use Rattle.std.specs.Prelude.{◌≡◌, refl, Bool, cond, not, ◌||◌, ◌⊎◌, ℕ, zero, suc, ◌+◌, ◌≤◌, ◌<◌, eqb, length}
-use Rattle.std.proofs.Common.{sym, ap, ◌∙◌, subst, inl, inr, arith, eqb-true, eq-eqb, ne_eqb}
+use Rattle.std.proofs.Common.{sym, ap, ◌∙◌, inl, inr, arith, eqb-true, eq-eqb, ne_eqb}
 use Rattle.std.proofs.Math.Bool.{true, false}
 use mathlib.Core.List.{List, [], ◌∷◌}
-use Rattle.std.proofs.lemmas.Bool.{eqb-false, false_from_ne_true, or_right}
-use Rattle.port_tables.specs.Lists.{range, Member, Once}
+use Rattle.std.proofs.lemmas.Bool.{eqb-false, false_from_ne_true, or_right, not-true, or_cases}
+use Rattle.port_tables.specs.Lists.{range, Member, Once, Rising}
 use Rattle.std.specs.List.{filter}
 use Rattle.portgraph.specs.Model.{total}
 use Rattle.portgraph.specs.Sums.{total_same}
@@ -13,30 +13,17 @@ use Rattle.port_tables.specs.declared.direction.Direction.{Direction}
 use Rattle.port_tables.specs.declared.direction.Direction.TheVariants.{Incoming, Outgoing}
 use Rattle.theorems.specs.Book.{spot_among}
 use Rattle.port_tables.specs.Places.{without, any_touches, lowest_unwired, next_offset, Place, Wire, Spot, spot, at_end, touches, flag}
-use Rattle.port_tables.specs.Listing.{member_filter, filter_member, flag_small}
+use Rattle.port_tables.specs.Listing.{member_filter, filter_member, flag_small, partners, Apart, once_apart, rising_once, rising_filter}
 use Rattle.multiportgraph.specs.LinkCutLaws.{end_is_same}
 use Rattle.theorems.specs.Claims.{count}
 use Rattle.multiportgraph.specs.CountLaws.{total_add}
-
--- truth values
-pub not_so_true : (b : Bool) → not b ≡ true → b ≡ false
-not_so_true true e = sym e
-not_so_true false e = refl
-
-pub or_true : (a b : Bool) → (a || b) ≡ true → (a ≡ true) ⊎ (b ≡ true)
-or_true true b e = inl refl
-or_true false b e = inr e
+use Rattle.portgraph.specs.LinkHolds.{total_none}
 
 -- Wires left by a test.
 
 module _ (f : Wire → Bool) where
   pub left_once : (l : List Wire) → Once l → Once (filter f l)
-  left_once [] o = tt
-  left_once (v ∷ l) o = go (f v) (left_once l o.1)
-    where
-      go : (b : Bool) → Once (filter f l) → Once (cond b (v ∷ filter f l) (filter f l))
-      go true r = ((λ h. o.0 (member_filter f v l h).0), r)
-      go false r = r
+  left_once l o = rising_once Apart (λ x d. d refl) (filter f l) (rising_filter Apart f l (once_apart l o))
 
 pub wire_stays : (f : Place → Bool) (w : Wire) (l : List Wire) → Member w l → touches f w ≡ false → Member w (without f l)
 wire_stays f w l i t = filter_member (λ v. not (touches f v)) w l i (ap not t)
@@ -44,7 +31,7 @@ wire_stays f w l i t = filter_member (λ v. not (touches f v)) w l i (ap not t)
 pub stayed_wire : (f : Place → Bool) (w : Wire) (l : List Wire) → Member w (without f l) → Member w l × (touches f w ≡ false)
 stayed_wire f w l i =
     let r = member_filter (λ v. not (touches f v)) w l i in
-    (r.0, not_so_true (touches f w) r.1)
+    (r.0, not-true (touches f w) r.1)
 
 -- Runs of slots.
 
@@ -116,11 +103,6 @@ unfolding total
 total_ones zero = refl
 total_ones (suc n) = let e : total n (λ i. 1) ≡ n = total_ones n in omega arith
 
-pub total_zeros : (n : ℕ) → total n (λ i. 0) ≡ 0
-unfolding total
-total_zeros zero = refl
-total_zeros (suc n) = let e : total n (λ i. 0) ≡ 0 = total_zeros n in omega arith
-
 flag_or : (a b : Bool) → flag (a || b) ≤ flag a + flag b
 flag_or true b = omega arith
 flag_or false b = omega arith
@@ -135,30 +117,32 @@ at_most_once (suc n) f one = go (f n) refl (at_most_once n f one)
     go true e r =
         let z : total n (λ i. flag (f i)) ≡ total n (λ i. 0) =
         total_same n (λ i. flag (f i)) (λ i. 0) (λ i k. ap flag (false_from_ne_true (f i) (λ t. let q : i ≡ n = one i n t e in omega arith))) in
-        omega (arith, total_zeros n, flag_small (f n))
+        omega (arith, total_none n (λ i. 0) (λ i. refl), flag_small (f n))
     go false e r = rw e (omega arith)
 
 -- a wire has one end at most at a spot
 one_offset : (n : ℕ) (d : Direction) (p : ℕ) (w : Wire) → Sided w → (i j : ℕ) → touches (at_end (spot n d p) i) w ≡ true → touches (at_end (spot n d p) j) w ≡ true → i ≡ j
 one_offset n d p w s i j a b =
-    go (or_true (at_end (spot n d p) i w.out) (at_end (spot n d p) i w.into) a) (or_true (at_end (spot n d p) j w.out) (at_end (spot n d p) j w.into) b)
+    go (or_cases (at_end (spot n d p) i w.out) (at_end (spot n d p) i w.into) a) (or_cases (at_end (spot n d p) j w.out) (at_end (spot n d p) j w.into) b)
   where
     clash : {e : Direction} → Outgoing ≡ e → Incoming ≡ e → i ≡ j
     clash x y = cc
 
+    stands : (k : ℕ) (z : Place) → at_end (spot n d p) k z ≡ true → (z.side ≡ d) × (z.offset ≡ k)
+    stands k z t =
+        let e = end_is_same (record { node = n; side = d; pos = p; offset = k }) z t in (ap (λ (v : Place). v.side) e, ap (λ (v : Place). v.offset) e)
+
     go : (at_end (spot n d p) i w.out ≡ true) ⊎ (at_end (spot n d p) i w.into ≡ true) → (at_end (spot n d p) j w.out ≡ true) ⊎ (at_end (spot n d p) j w.into ≡ true) → i ≡ j
-    go (inl x) (inl y) = ap (λ (z : Place). z.offset) (sym (end_is_same (record { node = n; side = d; pos = p; offset = i }) w.out x) ∙ end_is_same (record { node = n; side = d; pos = p; offset = j }) w.out y)
-    go (inr x) (inr y) = ap (λ (z : Place). z.offset) (sym (end_is_same (record { node = n; side = d; pos = p; offset = i }) w.into x) ∙ end_is_same (record { node = n; side = d; pos = p; offset = j }) w.into y)
-    go (inl x) (inr y) =
-        clash (sym s.0 ∙ ap (λ (z : Place). z.side) (end_is_same (record { node = n; side = d; pos = p; offset = i }) w.out x)) (sym s.1 ∙ ap (λ (z : Place). z.side) (end_is_same (record { node = n; side = d; pos = p; offset = j }) w.into y))
-    go (inr x) (inl y) =
-        clash (sym s.0 ∙ ap (λ (z : Place). z.side) (end_is_same (record { node = n; side = d; pos = p; offset = j }) w.out y)) (sym s.1 ∙ ap (λ (z : Place). z.side) (end_is_same (record { node = n; side = d; pos = p; offset = i }) w.into x))
+    go (inl x) (inl y) = sym (stands i w.out x).1 ∙ (stands j w.out y).1
+    go (inr x) (inr y) = sym (stands i w.into x).1 ∙ (stands j w.into y).1
+    go (inl x) (inr y) = clash (sym s.0 ∙ (stands i w.out x).0) (sym s.1 ∙ (stands j w.into y).0)
+    go (inr x) (inl y) = clash (sym s.0 ∙ (stands j w.out y).0) (sym s.1 ∙ (stands i w.into x).0)
 
 -- so many offsets are wired at a spot, at most as many as there are wires
 wired_offsets : (n : ℕ) (d : Direction) (p o : ℕ) (l : List Wire) → ((w : Wire) → Member w l → Sided w) →
     total o (λ j. flag (any_touches (at_end (spot n d p) j) l)) ≤ length l
 unfolding any_touches
-wired_offsets n d p o [] s = omega (arith, total_zeros o)
+wired_offsets n d p o [] s = omega (arith, total_none o (λ i. 0) (λ i. refl))
 wired_offsets n d p o (w ∷ l) s =
     let r : total o (λ j. flag (any_touches (at_end (spot n d p) j) l)) ≤ length l = wired_offsets n d p o l (λ v i. s v (inr i)) in
     let one : total o (λ j. flag (touches (at_end (spot n d p) j) w)) ≤ 1 =
@@ -178,50 +162,28 @@ next_offset_lem n d p o l s wired free =
     let b : o ≤ length l = omega (arith, wired_offsets n d p o l s, total_ones o) in
     lowest_from l (spot n d p) 0 (length l) o (omega arith) (omega arith) (λ j h. wired j) free
 
--- a list without a wire that stands in it
-leaving : (w : Wire) (l : List Wire) → Member w l → List Wire
-leaving w [] i = []
-leaving w (v ∷ l) (inl p) = l
-leaving w (v ∷ l) (inr h) = v ∷ leaving w l h
+-- How many wires of a list pass a test.
 
-count_leaving : (f : Wire → Bool) (w : Wire) (l : List Wire) (i : Member w l) → count f l ≡ flag (f w) + count f (leaving w l i)
-unfolding leaving
-count_leaving f w [] i = absurd i
-count_leaving f w (v ∷ l) (inl p) = rw p refl
-count_leaving f w (v ∷ l) (inr h) = let r : count f l ≡ flag (f w) + count f (leaving w l h) = count_leaving f w l h in omega arith
-
-in_leaving : (w v : Wire) (l : List Wire) (i : Member w l) → Member v l → (v ≡ w → ⊥) → Member v (leaving w l i)
-unfolding leaving
-in_leaving w v [] i k other = absurd i
-in_leaving w v (u ∷ l) (inl p) (inl q) other = absurd (other (q ∙ sym p))
-in_leaving w v (u ∷ l) (inl p) (inr k) other = k
-in_leaving w v (u ∷ l) (inr h) (inl q) other = inl q
-in_leaving w v (u ∷ l) (inr h) (inr k) other = inr (in_leaving w v l h k other)
-
-count_le : (f : Wire → Bool) (l k : List Wire) → Once l → ((w : Wire) → Member w l → f w ≡ true → Member w k) → count f l ≤ count f k
-count_le f [] k o s = omega arith
-count_le f (w ∷ l) k o s = go (f w) refl (λ k s. count_le f l k o.1 s)
-  where
-    go : (b : Bool) → f w ≡ b → ((k : List Wire) → ((v : Wire) → Member v l → f v ≡ true → Member v k) → count f l ≤ count f k) → flag (f w) + count f l ≤ count f k
-    go true e less =
-        let i : Member w k = s w (inl refl) e in
-        let r : count f l ≤ count f (leaving w k i) =
-        less (leaving w k i) (λ v h g. in_leaving w v k i (s v (inr h) g) (λ p. o.0 (subst (λ (x : Wire). Member x l) p h))) in
-        let c : count f k ≡ flag (f w) + count f (leaving w k i) = count_leaving f w k i in
-        omega arith
-    go false e less =
-        let r : count f l ≤ count f k = less k (λ v h. s v (inr h)) in
-        let z : flag (f w) ≡ 0 = ap flag e in
-        omega arith
-
--- two lists, each wire once, that have the same wires among those that pass a test
-pub same_count_among : (f : Wire → Bool) (l k : List Wire) → Once l → Once k → ((w : Wire) → Member w l → f w ≡ true → Member w k) →
-    ((w : Wire) → Member w k → f w ≡ true → Member w l) → count f l ≡ count f k
-same_count_among f l k o u s t =
-    let a : count f l ≤ count f k = count_le f l k o s in
-    let b : count f k ≤ count f l = count_le f k l u t in
+-- two lists without repeats that have the same items are as long
+pub same_length : {A : Type 0} (a b : List A) → Rising Apart a → Rising Apart b → ((x : A) → Member x a → Member x b) → ((x : A) → Member x b → Member x a) → length a ≡ length b
+same_length a b r s f g =
+    let p = partners (λ x y. x ≡ y) (λ x z y i j. i ∙ sym j) a b r (λ x i. (x, f x i, refl)) in
+    let q = partners (λ x y. x ≡ y) (λ x z y i j. i ∙ sym j) b a s (λ x i. (x, g x i, refl)) in
     omega arith
 
+pub count_is : (f : Wire → Bool) (l : List Wire) → length (filter f l) ≡ count f l
+count_is f [] = refl
+count_is f (w ∷ l) = go (f w) (count_is f l)
+  where
+    go : (t : Bool) → length (filter f l) ≡ count f l → length (cond t (w ∷ filter f l) (filter f l)) ≡ flag t + count f l
+    go true e = omega arith
+    go false e = omega arith
+
+-- two lists, each wire once, that have the same wires
 pub same_count : (f : Wire → Bool) (l k : List Wire) → Once l → Once k → ((w : Wire) → Member w l → Member w k) → ((w : Wire) → Member w k → Member w l) →
     count f l ≡ count f k
-same_count f l k o u s t = same_count_among f l k o u (λ w i e. s w i) (λ w i e. t w i)
+same_count f l k o u s t =
+    sym (count_is f l)
+    ∙ (same_length (filter f l) (filter f k) (once_apart (filter f l) (left_once f l o)) (once_apart (filter f k) (left_once f k u))
+    (λ w i. let r = member_filter f w l i in filter_member f w k (s w r.0) r.1) (λ w i. let r = member_filter f w k i in filter_member f w l (t w r.0) r.1)
+    ∙ count_is f k)

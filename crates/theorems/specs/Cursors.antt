@@ -14,7 +14,9 @@ use Rattle.std.specs.List.{filter}
 use Rattle.portgraph.specs.GoodSlots.{zero_is_not_one}
 use Rattle.port_tables.specs.Listing.{Apart, member_left, member_right, member_filter, filter_all, rising_filter}
 use Rattle.std.proofs.lemmas.List.Elements.{filter-append}
+use Rattle.multiportgraph.specs.RangeSearches.{last_append}
 use Rattle.portgraph.specs.Walks.{Walked, whole, unfinished, more}
+use Rattle.std.proofs.lemmas.List.{nil_from_length}
 
 -- What a step answers: an item with the cursor moved, or the end.
 pub data Stepped (B C : Type 0) : Type 0 where
@@ -108,6 +110,11 @@ backwards (x ∷ l) = backwards l ++ (x ∷ [])
 
 -- Lists by their last item.
 
+rising_last : {A : Type 0} (R : A → A → Type 0) (a : List A) (x : A) → Rising R (a ++ (x ∷ [])) → (y : A) → Member y a → R y x
+rising_last {A = A} R [] x r y never = absurd never
+rising_last R (z ∷ a) x r y (inl e) = subst (λ v. R v x) (sym e) (r.0 x (member_right x a (x ∷ []) (inl refl)))
+rising_last R (z ∷ a) x r y (inr i) = rising_last R a x r.1 y i
+
 module _ {B : Type 0} where
   pub last_splits : (x : B) (l : List B) → x ∷ l ≡ without_last x l ++ (last_in x l ∷ [])
   unfolding last_in without_last
@@ -127,11 +134,6 @@ module _ {B : Type 0} where
   backwards_last : (a : List B) (x : B) → backwards (a ++ (x ∷ [])) ≡ x ∷ backwards a
   unfolding backwards
   backwards_last a x = backwards_append a (x ∷ [])
-
-  last_of : {S : Type 0} (e : S) (f : B → S) (a : List B) (x : B) → on_last e f (a ++ (x ∷ [])) ≡ f x
-  unfolding on_last
-  last_of e f [] x = refl
-  last_of e f (y ∷ a) x = last_of (f y) f a x
 
 -- Taking from both ends.
 
@@ -182,11 +184,7 @@ module _ {B : Type 0} where
       omega arith
 
   pub none_left : (choices : List From) (l : List B) → length l ≤ length choices → left_after choices l ≡ []
-  none_left choices l h = go (left_after choices l) (let e = left_length choices l in omega arith)
-    where
-      go : (r : List B) → length r ≡ 0 → r ≡ []
-      go [] e = refl
-      go (x ∷ r) e = absurd (omega arith)
+  none_left choices l h = nil_from_length (left_after choices l) (let e = left_length choices l in omega arith)
 
   -- once as many steps were made as the list is long, every item was given
   pub all_given_lem : (choices : List From) (l : List B) → length l ≤ length choices →
@@ -235,11 +233,6 @@ module _ {B : Type 0} where
   apart_first [] b r = tt
   apart_first (x ∷ a) b r = ((λ y i. r.0 y (member_left y a b i)), apart_first a b r.1)
 
-  apart_last : (a : List B) (x : B) → Rising Apart (a ++ (x ∷ [])) → (y : B) → Member y a → x ≡ y → ⊥
-  apart_last [] x r y never q = absurd never
-  apart_last (z ∷ a) x r y (inl e) q = r.0 x (member_right x a (x ∷ []) (inl refl)) (sym (q ∙ e))
-  apart_last (z ∷ a) x r y (inr i) q = apart_last a x r.1 y i q
-
   left_apart : (c : From) (l : List B) → Rising Apart l → Rising Apart (left_by c l)
   left_apart c [] r = tt
   left_apart front (y ∷ l) r = r.1
@@ -256,8 +249,8 @@ module _ {B : Type 0} where
       go c [] r s = s
       go front (y ∷ l) r s = ((λ x i. r.0 x (taken_member choices x l i)), s)
       go back (y ∷ l) r s = (
-        (λ x i.
-            apart_last (without_last y l) (last_in y l) (subst (Rising Apart) (last_splits y l) r) x (taken_member choices x (without_last y l) i)),
+        (λ x i e.
+            rising_last Apart (without_last y l) (last_in y l) (subst (Rising Apart) (last_splits y l) r) x (taken_member choices x (without_last y l) i) (sym e)),
         s,
       )
 
@@ -285,25 +278,6 @@ turns {B} {l} {answers} r e =
       all_given = λ choices h. rw (e choices) (all_given_lem choices l h);
       ended = λ choices others h. rw (e choices, e (choices ++ others)) (then_ends choices others l h);
     }
-
--- The first and the last of a list, read in another form.
-
-module _ {S T : Type 0} (g : S → T) where
-  pub first_map : {A : Type 0} (e : S) (f : A → S) (l : List A) → g (on_first e f l) ≡ on_first (g e) (λ x. g (f x)) l
-  unfolding on_first
-  first_map e f [] = refl
-  first_map e f (x ∷ l) = refl
-
-  pub last_map : {A : Type 0} (e : S) (f : A → S) (l : List A) → g (on_last e f l) ≡ on_last (g e) (λ x. g (f x)) l
-  unfolding on_last
-  last_map e f [] = refl
-  last_map e f (x ∷ l) = last_map (f x) f l
-
-  -- where a step ends unless a test holds
-  pub first_if : {A : Type 0} (b : Bool) (e : S) (f : A → S) (l : List A) → g (cond b (on_first e f l) e) ≡ on_first (g e) (λ x. g (f x)) (cond b l [])
-  unfolding on_first
-  first_if true e f l = first_map e f l
-  first_if false e f l = refl
 
 pub rising_as : {A : Type 0} (R S : A → A → Type 0) (l : List A) → ((x y : A) → Member x l → Member y l → R x y → S x y) → Rising R l → Rising S l
 rising_as R S [] h r = tt
@@ -353,11 +327,6 @@ filter_narrow {A} t u (x ∷ l) h = go (t x) refl (u x) refl (filter_narrow t u 
     go true e false d r = absurd (zero_is_not_one (let k = h x e in cc))
     go false e true d r = rw e r
     go false e false d r = r
-
-rising_last : {A : Type 0} (R : A → A → Type 0) (a : List A) (x : A) → Rising R (a ++ (x ∷ [])) → (y : A) → Member y a → R y x
-rising_last {A = A} R [] x r y never = absurd never
-rising_last R (z ∷ a) x r y (inl e) = subst (λ v. R v x) (sym e) (r.0 x (member_right x a (x ∷ []) (inl refl)))
-rising_last R (z ∷ a) x r y (inr i) = rising_last R a x r.1 y i
 
 module _ {A B K C : Type 0} (l : Listed A B K C) where
   -- what is left after a step
@@ -412,7 +381,7 @@ module _ {A B K C : Type 0} (l : Listed A B K C) where
     back_gives k r t e = b.is k t ∙ ap (on_last end (λ x. item (l.out x) (l.cursor (b.next k x)))) e
 
     back_gives_last : (k : K) (x : A) (r : List A) → l.there k → left_of l k ≡ r ++ (x ∷ []) → step (l.cursor k) ≡ item (l.out x) (l.cursor (b.next k x))
-    back_gives_last k x r t e = back_gives k (r ++ (x ∷ [])) t e ∙ last_of end (λ x. item (l.out x) (l.cursor (b.next k x))) r x
+    back_gives_last k x r t e = back_gives k (r ++ (x ∷ [])) t e ∙ last_append end (λ x. item (l.out x) (l.cursor (b.next k x))) r x
 
     -- A walk from the back gives the same in reverse order.
     pub walk_back : (fuel : ℕ) (k : K) → l.there k → length (left_of l k) < fuel → walk step fuel (l.cursor k) ≡ whole (backwards (map l.out (left_of l k)))

@@ -15,7 +15,8 @@
 --   ReleaseClaims what is said of the two releases: a call without the check of 18, and histories by their answers
 -- The links listed at a port are its wires (ListedLinks); so 18's test is its condition (TakenLaws).
 -- Runs of lists: Runs. The bench wiring, cases A to K, a few resizes, fan-outs, second wires into an input and tidies: Bench; 01's numbers: NumberTable.
--- Releases: no call looks at the release but for 18 (ReleaseLaws); hidden nodes stay on outputs (ReleaseHidden, ReleaseInputs).
+-- Releases: no call looks at the release but for 18 (ReleaseLaws); what every outcome of a call without that check has (CallCases); hidden nodes
+-- stay on outputs (ReleaseHidden, ReleaseInputs).
 -- Walks: each gives its listing whole, in order, and then the end (WalkStepLaws, BlockWalkLaws: the laws named .._whole); by turns from
 -- both ends no item comes twice (nodes_turns, ports_turns, port_links_turns); a cursor whose node or port is gone or hidden ends, and a
 -- step gives only what is listed beyond what its cursor holds (WalkHeldLaws).
@@ -50,5 +51,6 @@ pub mod WalkHeldLaws
 -- releases
 pub mod ReleaseClaims
 pub mod ReleaseLaws
+pub mod CallCases
 pub mod ReleaseHidden
 pub mod ReleaseInputs

@@ -109,9 +109,14 @@ prepare_at {m} {M} f p n d b =
     subst (λ q. PreparedSays m M b.place (prepare m q d)) b.slot
     (subst (λ e. PreparedSays m M b.place (prepare m (slot_of M.node b.place) e)) b.side (prepare_says f b.place b.is_seen))
 
-end_of_sides : (d : Direction) (p q : Place) → HasEnd (wire_of_sides d p q) p
+-- a wire of two ends has them
+pub end_of_sides : (d : Direction) (p q : Place) → HasEnd (wire_of_sides d p q) p
 end_of_sides Incoming p q = inr refl
 end_of_sides Outgoing p q = inl refl
+
+pub far_of_sides : (d : Direction) (p q : Place) → HasEnd (wire_of_sides d p q) q
+far_of_sides Incoming p q = inl refl
+far_of_sides Outgoing p q = inr refl
 
 -- Both ends are prepared, on different sides.
 

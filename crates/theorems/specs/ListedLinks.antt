@@ -23,18 +23,17 @@ use Rattle.port_tables.specs.Places.{Place, Wire, spot, at_spot, touches, wire_o
 use Rattle.multiportgraph.specs.Wires.{subports_of_port, wire_of, place_of}
 use Rattle.multiportgraph.specs.Walks.{port_links}
 use Rattle.multiportgraph.specs.WellFormed.{Fine, Seen, lift, outer, IsEnd, WireIn, copy_place}
-use Rattle.multiportgraph.specs.Ends.{EndOf, lift_place, seen_block, ends_join_ends, out_side, into_side, outer_seen, outer_apart, end_read, place_of_sub, subport_of_lem, other_side, hangs, one_copy, end_side, outer_of_subport, outer_of_block, end_of_split, end_of_unsplit}
+use Rattle.multiportgraph.specs.Ends.{EndOf, lift_place, seen_block, ends_join_ends, out_side, into_side, outer_seen, outer_apart, end_read, place_of_sub, subport_of_lem, other_side, hangs, one_copy, end_side, outer_of_subport, outer_of_block, end_of_split, end_of_unsplit, wire_at}
 use Rattle.multiportgraph.specs.LinkCutLaws.{at_spot_is}
 use Rattle.port_tables.specs.Listing.{member_flat_map, flat_map_member, member_map, map_member, range_member}
 use Rattle.multiportgraph.specs.declared.multiportgraph.MultiPortGraph.{MultiPortGraph}
 use Rattle.multi_tables.specs.declared.answers.SubportIndex.{SubportIndex}
 use Rattle.multi_tables.specs.declared.answers.SubportLink.{SubportLink}
-use Rattle.theorems.specs.BookLaws.{or_true}
 use Rattle.theorems.specs.ListingClaims.{wire_from}
 use Rattle.port_tables.specs.Entries.{reversed}
 use Rattle.port_tables.specs.declared.index.PortIndex.{PortIndex}
 use Rattle.portgraph.specs.declared.portgraph.NoSuchPort.{NoSuchPort}
-use Rattle.std.proofs.lemmas.Bool.{or_right}
+use Rattle.std.proofs.lemmas.Bool.{or_right, or_cases}
 
 -- the end of a port at which a wire ends is read as named
 module _ {m : MultiPortGraph} {M : Model} (f : Fine m M) (x z : model.InnerPlace) (o : ℕ) (e : IsEnd m M z) (is : outer m M z ≡ lift x o) where
@@ -194,33 +193,10 @@ module _ {m : MultiPortGraph} {M : Model} (f : Fine m M) where
 
   -- a listed link is a wire
   pub link_wire : (x : model.InnerPlace) (w : SubportLink) → LinkIs m M x w → WireIn m M (wire_from m x.side w)
-  link_wire x w l = go x.side refl
-    where
-      out : place_of m w.from ≡ outer m M l.z
-      out = from_place x w l ∙ sym l.own
-
-      into : place_of m w.to ≡ outer m M l.y
-      into = to_place x w l
-
-      go : (d : Direction) → x.side ≡ d → WireIn m M (wire_from m d w)
-      go Outgoing e =
-          record {
-            x = l.z;
-            y = l.y;
-            joined = l.joined;
-            outgoing = l.side ∙ e;
-            end = l.end;
-            is = λ i. record { out = out i; into = into i };
-          }
-      go Incoming e =
-          record {
-            x = l.y;
-            y = l.z;
-            joined = f.good.join_back l.z l.y l.joined;
-            outgoing = other_side Incoming l.y.side (λ q. f.good.join_sides l.z l.y l.joined (l.side ∙ (e ∙ q)));
-            end = ends_join_ends f l.z l.y l.end l.joined;
-            is = λ i. record { out = into i; into = out i };
-          }
+  link_wire x w l =
+      let out : outer m M l.z ≡ place_of m w.from = l.own ∙ sym (from_place x w l) in
+      let into : outer m M l.y ≡ place_of m w.to = sym (to_place x w l) in
+      subst (WireIn m M) (λ i. wire_of_sides (l.side i) (out i) (into i)) (wire_at f l.z l.y l.end l.joined)
 
   -- two listed links with one own place are at one subport
   pub same_from : (x y : model.InnerPlace) (v w : SubportLink) → LinkIs m M x v → LinkIs m M y w → place_of m v.from ≡ place_of m w.from →
@@ -267,9 +243,9 @@ module _ {m : MultiPortGraph} {M : Model} (f : Fine m M) where
   -- a wire that touches a port has its end of that port's side there
   pub touched_own : (w : Wire) → WireIn m M w → (n : ℕ) (d : Direction) (i : ℕ) → touches (at_spot (spot n d i)) w ≡ true → at_spot (spot n d i) (end_on d w) ≡ true
   touched_own w h n Outgoing i t =
-      ⊎_elim (λ e. e) (λ e. let k = (at_spot_is n Outgoing i w.into e).1 in let q = into_side f w h in absurd (zero_is_not_one (cc))) (or_true _ _ t)
+      ⊎_elim (λ e. e) (λ e. let k = (at_spot_is n Outgoing i w.into e).1 in let q = into_side f w h in absurd (zero_is_not_one (cc))) (or_cases _ _ t)
   touched_own w h n Incoming i t =
-      ⊎_elim (λ e. let k = (at_spot_is n Incoming i w.out e).1 in let q = out_side f w h in absurd (zero_is_not_one (cc))) (λ e. e) (or_true _ _ t)
+      ⊎_elim (λ e. let k = (at_spot_is n Incoming i w.out e).1 in let q = out_side f w h in absurd (zero_is_not_one (cc))) (λ e. e) (or_cases _ _ t)
 
   port_links_are : (x : model.InnerPlace) → Seen m M x → port_links m (slot_of M.node x) ≡ flat_map (wire_of m x.side) (subports_of_port m x.side (slot_of M.node x))
   unfolding port_links

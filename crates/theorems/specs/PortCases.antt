@@ -2,9 +2,9 @@
 use Rattle.std.specs.Prelude.{◌≡◌, refl, Bool, true, false, cond, ℕ, ◌≤◌, ◌<◌}
 use Rattle.std.proofs.Common.{sym, ◌∙◌, ap, subst, ⊎_elim, arith}
 use Rattle.portgraph.specs.Model as model
-use Rattle.portgraph.specs.Model.{Model, to, Valid, slot_of, count_of, Dead}
-use Rattle.portgraph.specs.GoodSlots.{zero_is_not_one}
-use Rattle.portgraph.specs.PlaceLaws.{slot_cases, dead_port}
+use Rattle.portgraph.specs.Model.{Model, to, Valid, slot_of, count_of, Dead, Far, nowhere, Slots, gone, live}
+use Rattle.portgraph.specs.GoodSlots.{zero_is_not_one, slots_apart}
+use Rattle.portgraph.specs.PlaceLaws.{slot_cases, dead_port, meta_of_node, gone_has_no_meta}
 use Rattle.multiportgraph.specs.Reading.{is_hidden, is_split, seen, subports, end_at}
 use Rattle.multi_tables.specs.Forms.{dead, hidden, visible, End, inner, lacking}
 use Rattle.multiportgraph.specs.WellFormed.{Fine, lift, outer}
@@ -13,10 +13,28 @@ use Rattle.multiportgraph.specs.Ends.{EndOf}
 use Rattle.multiportgraph.specs.declared.multiportgraph.MultiPortGraph.{MultiPortGraph}
 use Rattle.port_tables.specs.Places.{Place}
 use Rattle.theorems.specs.Conditions.{Lacks, OfBlock, OfHidden, PortIs, block_port, hidden_port, no_port}
+use Rattle.portgraph.specs.Lookups.{contains_node, is_some}
+use Rattle.port_tables.specs.declared.node_entry.NodeMeta.{NodeMeta}
+
+-- What is not the one is the other.
+
+pub gone_unless : (v : Slots) → ((k : NodeMeta) → v ≡ live k → ⊥) → v ≡ gone
+gone_unless gone h = refl
+gone_unless (live k) h = absurd (h k refl)
+
+pub free_unless : (v : Far) → ((y : model.InnerPlace) → v ≡ to y → ⊥) → v ≡ nowhere
+free_unless nowhere h = refl
+free_unless (to y) h = absurd (h y refl)
 
 -- Ports and ends.
 
 module _ {m : MultiPortGraph} {M : Model} (f : Fine m M) where
+  pub live_contained : (n : ℕ) (k : NodeMeta) → M.node n ≡ live k → contains_node m.graph n ≡ true
+  live_contained n k e = ap is_some (meta_of_node f.good f.holds n k e)
+
+  pub gone_not_contained : (n : ℕ) → M.node n ≡ gone → contains_node m.graph n ≡ false
+  gone_not_contained n e = ap is_some (gone_has_no_meta f.good f.holds n e)
+
   pub port_is : (p : ℕ) → PortIs m M p
   port_is p = ⊎_elim found (λ e. no_port (dead_port f.good f.holds p e)) (slot_cases f.good f.holds p)
     where
@@ -55,6 +73,18 @@ module _ {m : MultiPortGraph} {M : Model} (f : Fine m M) where
 
   pub not_lacking : (p : ℕ) (x : model.InnerPlace) (o u : ℕ) → OfBlock m M p x → end_at m p x.side o ≡ inner u → Lacks m M x o → ⊥
   not_lacking p x o u b e l = let z = lacks_is p x o b l in zero_is_not_one (cc)
+
+  -- an end that is not lacking has an inner port
+  pub not_lacking_there : (p : ℕ) (x : model.InnerPlace) (o : ℕ) → OfBlock m M p x → (Lacks m M x o → ⊥) → (u : ℕ) × (end_at m p x.side o ≡ inner u)
+  not_lacking_there p x o b n = go (end_at m p x.side o) refl
+    where
+      go : (v : End) → end_at m p x.side o ≡ v → (u : ℕ) × (end_at m p x.side o ≡ inner u)
+      go lacking e = absurd (n (is_lacking p x o b e))
+      go (inner u) e = (u, e)
+
+  -- one port stands at one place
+  pub only_there : (p o : ℕ) (x : model.InnerPlace) → OfBlock m M p x → (Lacks m M x o → ⊥) → (y : model.InnerPlace) → OfBlock m M p y → Lacks m M y o → ⊥
+  only_there p o x s n y t l = n (subst (λ (w : model.InnerPlace). Lacks m M w o) (slots_apart f.good y x t.0.0 s.0.0 (t.1 ∙ sym s.1)) l)
 
   -- an end that is there is not lacking
   end_not_lacking : (x : model.InnerPlace) (o u : ℕ) → EndOf m M x o u → Lacks m M x o → ⊥

@@ -1,9 +1,9 @@
 -- Hidden nodes that hang on outputs. Every call but a link leaves the hidden nodes as they are, or fewer of them, and none has other
 -- counts than before.
 use Rattle.theorems.specs.Pairs.{ok_pair}
-use Rattle.std.specs.Prelude.{◌≡◌, refl, Bool, true, cond, List, [], ◌∷◌, eqb, leb, set, Option, Some, None, Ok, Err, Result}
+use Rattle.std.specs.Prelude.{◌≡◌, refl, Bool, true, cond, List, [], ◌∷◌, eqb, leb, Ok}
 use Rattle.std.proofs.Math.Path.{sym, subst}
-use Rattle.std.proofs.Common.{◌∙◌, ap, get_or-set_other, leb-true}
+use Rattle.std.proofs.Common.{◌∙◌, ap, leb-true}
 use Rattle.std.proofs.Math.Bool.{false}
 use Prim.Native.Nat.{ℕ, zero, suc, ◌+◌}
 use Rattle.std.proofs.Math.ListN.{get_or}
@@ -11,14 +11,13 @@ use Rattle.port_tables.specs.Limits.{present, node_slots, port_slots, node_ports
 use Rattle.port_tables.specs.Entries.{fresh_slot, same_side, meta_of, node#, meta_of_entry}
 use Rattle.port_tables.specs.Tables.{at}
 use Rattle.portgraph.specs.Meaning.{next_slot, next_block, growth}
-use Rattle.portgraph.specs.Lookups.{meta_at, num_ports, count_in, port_at}
+use Rattle.portgraph.specs.Lookups.{num_ports, count_in, port_at}
 use Rattle.portgraph.specs.Calls.{add_node, remove_node, place_node, link_ports, link_entries, link_sides, link_free, unlink_port, unlink_entry}
 use Rattle.portgraph.specs.Resize.{set_num_ports}
 use Rattle.portgraph.specs.Model.{Model, Slots, gone, live, Good, Holds, Wf, count_of}
 use Rattle.portgraph.specs.GoodSlots.{zero_is_not_one, gone_not_live, upd_same, upd_other}
 use Rattle.portgraph.specs.GoodLaws.{good_add, good_remove, next_slot_gone}
 use Rattle.portgraph.specs.SlotHolds.{add_law, add_where, place_holds, slot_room, block_room, remove_law, remove_slots, free_holds, wf_remove}
-use Rattle.portgraph.specs.PlaceLaws.{meta_of_node, gone_has_no_meta}
 use Rattle.port_tables.specs.declared.direction.Direction.{Direction}
 use Rattle.port_tables.specs.declared.direction.Direction.TheVariants.{Incoming}
 use Rattle.port_tables.specs.declared.index.NodeIndex.{NodeIndex}
@@ -30,8 +29,7 @@ use Rattle.port_tables.specs.declared.port_entry.PortEntry.TheVariants as port_v
 use Rattle.portgraph.specs.declared.portgraph.PortGraph.{PortGraph}
 use Rattle.portgraph.specs.declared.alloc.NodeAdded as lower_added
 use Rattle.portgraph.specs.declared.alloc.NodeRemoved as lower_removed
-use Rattle.multiportgraph.specs.Reading.{is_hidden, is_split, has_link, far_port, port_of, copy_node, copy_side, subport_at, seen, end_at, as_read}
-use Rattle.multi_tables.specs.Forms.{Port, dead, hidden, visible, End, inner, lacking, good_offset}
+use Rattle.multiportgraph.specs.Reading.{is_hidden, is_split, has_link, far_port, port_of, copy_node, copy_side, subport_at}
 use Rattle.multiportgraph.specs.Graph.{with_graph}
 use Rattle.multiportgraph.specs.WellFormed.{Fine}
 use Rattle.multiportgraph.specs.HiddenStays.{true_not_false}
@@ -39,33 +37,18 @@ use Rattle.multiportgraph.specs.RecountLaws.{SomeRecount, set_recounts}
 use Rattle.multiportgraph.specs.HiddenNodes.{copies_dropped, recounted, remove_all, remove_copy, remove_lone, unsplit, unsplit_range}
 use Rattle.multiportgraph.specs.Tidy.{link_directly}
 use Rattle.multiportgraph.specs.Calls.{add_block, remove_block, set_counts, drop_block, link_sub_if, cut_port, cut_sub}
-use Rattle.multiportgraph.specs.Cases.{cut_end, cut_refused, cut_seen, cut_sub_seen, link_first_end, link_inner, link_refused, link_second_end, link_sub_seen, remove_meta, resized, set_meta, set_refused}
-use Rattle.multiportgraph.specs.CaseLaws.{add_cases, remove_cases, set_cases, link_sub_cases, cut_sub_cases}
-use Rattle.multiportgraph.proofs.CutLaws.{cut_cases}
+use Rattle.theorems.specs.CallCases.{remove_each, set_each, cut_each, cut_sub_each, link_sub_each}
+use Rattle.multiportgraph.specs.CaseLaws.{add_cases}
 use Rattle.multiportgraph.specs.declared.multiportgraph.MultiPortGraph.{MultiPortGraph}
 use Rattle.multiportgraph.specs.declared.multiportgraph.NodeAdded.{NodeAdded}
-use Rattle.multiportgraph.specs.declared.multiportgraph.NodeRemoved.{NodeRemoved}
-use Rattle.multiportgraph.specs.declared.multiportgraph.PortsSet.{PortsSet}
-use Rattle.multiportgraph.specs.declared.multiportgraph.PortsLinked.{PortsLinked}
-use Rattle.multiportgraph.specs.declared.multiportgraph.PortUnlinked.{PortUnlinked}
-use Rattle.multi_tables.specs.declared.answers.Refusal.TheVariants.{BadOffset, TooManyPorts}
-use Rattle.portgraph.specs.declared.portgraph.LinkError.TheVariants as link_error
-use Rattle.portgraph.specs.declared.resize.SetError.TheVariants as set_error
-use Rattle.portgraph.specs.declared.portgraph.LinkError.{LinkError}
-use Rattle.portgraph.specs.declared.resize.SetError.{SetError}
+use Rattle.multiportgraph.specs.CopyLaws.{hidden_not_copy, still_hidden}
+use Rattle.multiportgraph.specs.Ends.{count_in_lem}
 
 -- every hidden node hangs on an output: its one incoming port is its copy port
 abbrev pub OnOutputs : MultiPortGraph → Type 0
 OnOutputs m = (c : ℕ) → is_hidden m c ≡ true → num_ports m.graph c Incoming ≡ 1
 
 -- Counts of nodes in the single-link graph.
-
-pub count_in_lem : {g : PortGraph} {M : Model} → Good M → Holds g M → (n : ℕ) (d : Direction) → num_ports g n d ≡ count_of (M.node n) d
-count_in_lem {g} {M} good holds n d = go (M.node n) refl
-  where
-    go : (v : Slots) → M.node n ≡ v → num_ports g n d ≡ count_of v d
-    go gone e = ap (λ (k : Option NodeMeta). count_in k d) (gone_has_no_meta good holds n e)
-    go (live k) e = ap (λ (k : Option NodeMeta). count_in k d) (meta_of_node good holds n k e)
 
 -- two graphs whose models have the same at a node
 pub counts_same : {g g' : PortGraph} {M M' : Model} → Good M → Holds g M → Good M' → Holds g' M' → (n : ℕ) (d : Direction) → M'.node n ≡ M.node n → num_ports g' n d ≡ num_ports g n d
@@ -152,27 +135,13 @@ record Hung (m : MultiPortGraph) : Type 0 where
   wf : Wf m.graph
   on : OnOutputs m
 
--- a flag that is taken off
-cleared : (l : List Bool) (i : ℕ) → get_or (set l i false) i false ≡ false
-cleared [] i = refl
-cleared (x ∷ l) zero = refl
-cleared (x ∷ l) (suc i) = cleared l i
-
 module _ (m : MultiPortGraph) (p c : ℕ) where
-  not_gone : (k : ℕ) → is_hidden (remove_copy m p c) k ≡ true → k ≡ c → ⊥
-  unfolding remove_copy is_hidden
-  not_gone k h e = true_not_false h (ap (λ (i : ℕ). get_or (set m.copy_node c false) i false) e ∙ cleared m.copy_node c)
-
-  copy_fewer : (k : ℕ) → is_hidden (remove_copy m p c) k ≡ true → is_hidden m k ≡ true
-  unfolding remove_copy is_hidden
-  copy_fewer k h = sym (get_or-set_other m.copy_node c k false false (not_gone k h)) ∙ h
-
   copy_hung : Hung m → Hung (remove_copy m p c)
   unfolding remove_copy is_hidden
   copy_hung h =
       record {
         wf = wf_remove m.graph c h.wf;
-        on = λ k e. remove_count h.wf.good h.wf.holds c k Incoming (not_gone k e) ∙ h.on k (copy_fewer k e);
+        on = λ k e. remove_count h.wf.good h.wf.holds c k Incoming (hidden_not_copy m p c k e) ∙ h.on k (still_hidden m p c k e);
       }
 
 unsplit_hung : (m : MultiPortGraph) (p : ℕ) → Hung m → Hung (unsplit m p)
@@ -188,7 +157,7 @@ unfolding unsplit
 unsplit_fewer m p k = go (is_split m p)
   where
     go : (b : Bool) → is_hidden (cond b (remove_copy m p (copy_node m p)) m) k ≡ true → is_hidden m k ≡ true
-    go true h = copy_fewer m p (copy_node m p) k h
+    go true h = still_hidden m p (copy_node m p) k h
     go false h = h
 
 range_hung : (m : MultiPortGraph) (p n : ℕ) → Hung m → Hung (unsplit_range m p n)
@@ -220,7 +189,7 @@ module _ {m : MultiPortGraph} {M : Model} (f : Fine m M) (on : OnOutputs m) wher
 
   pub remove_on : (n : ℕ) → OnOutputs (remove_block m n).graph
   unfolding drop_block is_hidden
-  remove_on n = subst (λ (v : NodeRemoved). OnOutputs v.graph) (sym (remove_cases m n)) (go (meta_at m.graph n))
+  remove_on n = remove_each m (λ v. OnOutputs v.graph) n (λ z w. on) dropped
     where
       dropped : (k : NodeMeta) → is_hidden m n ≡ false → OnOutputs (drop_block m n k)
       dropped k shown c h =
@@ -228,14 +197,6 @@ module _ {m : MultiPortGraph} {M : Model} (f : Fine m M) (on : OnOutputs m) wher
           let r = range_hung m first (k.incoming + k.outgoing) hung in
           let other : (c ≡ n → ⊥) = λ e. true_not_false (range_fewer m first (k.incoming + k.outgoing) c h) (ap (is_hidden m) e ∙ shown) in
           remove_count r.wf.good r.wf.holds n c Incoming other ∙ r.on c h
-
-      block : (k : NodeMeta) (b : Bool) → is_hidden m n ≡ b → OnOutputs (remove_meta m n (Some k)).graph
-      block k true e = rw e on
-      block k false e = rw e (dropped k e)
-
-      go : (v : Option NodeMeta) → OnOutputs (remove_meta m n v).graph
-      go None = on
-      go (Some k) = block k (is_hidden m n) refl
 
   -- a node that is not hidden, with other counts
   recount_hung : (n i o : ℕ) (g : PortGraph) → is_hidden m n ≡ false → SomeRecount g M n i o → Hung (recounted m n g)
@@ -248,58 +209,16 @@ module _ {m : MultiPortGraph} {M : Model} (f : Fine m M) (on : OnOutputs m) wher
       }
 
   pub set_on : (n i o room : ℕ) → OnOutputs (set_counts m n i o room).graph
-  set_on n i o room = subst (λ (v : PortsSet). OnOutputs v.graph) (sym (set_cases present m n i o room)) (few (leb (i + o) node_ports))
-    where
-      g' : PortGraph
-      g' = (set_num_ports m.graph n i o room).graph
-
-      lower : (k : NodeMeta) → is_hidden m n ≡ false → (a : Result ℕ SetError) → (set_num_ports m.graph n i o room).answer ≡ a → OnOutputs (resized m n k i o g' a)
-      lower k shown (Ok e) q =
-          (all_hung (recounted m n g') (copies_dropped m k i o) (recount_hung n i o g' shown (set_recounts f.good f.holds n i o room e q))).on
-      lower k shown (Err set_error.TooManyPorts) q = on
-      lower k shown (Err set_error.UnknownNode) q = on
-      lower k shown (Err set_error.MovesTooShort) q = on
-      lower k shown (Err set_error.NoRoom) q = on
-
-      block : (k : NodeMeta) (b : Bool) → is_hidden m n ≡ b → OnOutputs (set_meta m n i o room (Some k)).graph
-      block k true e = rw e on
-      block k false e = rw e (lower k e (set_num_ports m.graph n i o room).answer refl)
-
-      node : (v : Option NodeMeta) → OnOutputs (set_meta m n i o room v).graph
-      node None = on
-      node (Some k) = block k (is_hidden m n) refl
-
-      few : (b : Bool) → OnOutputs (cond b (set_meta m n i o room (meta_at m.graph n)) (set_refused m TooManyPorts)).graph
-      few true = node (meta_at m.graph n)
-      few false = on
+  set_on n i o room =
+      let g' = (set_num_ports m.graph n i o room).graph in
+      set_each m (λ v. OnOutputs v.graph) n i o room (λ z w. on)
+      (λ k e shown q. (all_hung (recounted m n g') (copies_dropped m k i o) (recount_hung n i o g' shown (set_recounts f.good f.holds n i o room e q))).on)
 
   pub cut_on : (p : ℕ) → OnOutputs (cut_port m p).graph
-  cut_on p = subst (λ (v : PortUnlinked). OnOutputs v.graph) (sym (cut_cases m p)) (go (seen m p))
-    where
-      here : (n : ℕ) (d : Direction) (b : Bool) → is_split m p ≡ b → OnOutputs (cut_seen m p (visible n d)).graph
-      here n d true e = rw e (unsplit_hung m p hung).on
-      here n d false e = rw e (links_on m (unlink_port m.graph p).graph (unlink_nodes m.graph p) on)
-
-      go : (u : Port) → OnOutputs (cut_seen m p u).graph
-      go dead = on
-      go hidden = on
-      go (visible n d) = here n d (is_split m p) refl
+  cut_on p = cut_each m (λ v. OnOutputs v.graph) p (λ z w. on) (unsplit_hung m p hung).on (links_on m (unlink_port m.graph p).graph (unlink_nodes m.graph p) on)
 
   pub cut_sub_on : (p o : ℕ) → OnOutputs (cut_sub m p o).graph
-  cut_sub_on p o = subst (λ (v : PortUnlinked). OnOutputs v.graph) (sym (cut_sub_cases m p o)) (good (good_offset o))
-    where
-      at_end : (v : End) → OnOutputs (cut_end m p v).graph
-      at_end lacking = on
-      at_end (inner x) = links_on m (unlink_port m.graph x).graph (unlink_nodes m.graph x) on
-
-      go : (u : Port) → OnOutputs (cut_sub_seen m p o u).graph
-      go dead = on
-      go hidden = on
-      go (visible n d) = at_end (end_at m p d o)
-
-      good : (b : Bool) → OnOutputs (cond b (cut_sub_seen m p o (seen m p)) (cut_refused m BadOffset)).graph
-      good true = go (seen m p)
-      good false = on
+  cut_sub_on p o = cut_sub_each m (λ v. OnOutputs v.graph) p o (λ z w. on) (λ x. links_on m (unlink_port m.graph x).graph (unlink_nodes m.graph x) on)
 
   -- a tidy that takes a hidden node away
   pub direct_on : (p : ℕ) (d : Direction) → OnOutputs (link_directly m p d)
@@ -318,33 +237,4 @@ module _ {m : MultiPortGraph} {M : Model} (f : Fine m M) (on : OnOutputs m) wher
 
   -- linking subports prepares nothing
   pub sub_on : (p o q r : ℕ) → OnOutputs (link_sub_if false m p o q r).graph
-  sub_on p o q r = subst (λ (v : PortsLinked). OnOutputs v.graph) (sym (link_sub_cases m p o q r)) (offsets (good_offset o) (good_offset r))
-    where
-      joins : (x y : ℕ) (a : Result (PortIndex × PortIndex) LinkError) → OnOutputs (link_inner m (as_read m p o) (as_read m q r) a (link_ports m.graph x y).graph).graph
-      joins x y (Ok (s, t)) = links_on m (link_ports m.graph x y).graph (link_nodes m.graph x y) on
-      joins x y (Err (link_error.UnknownPort s)) = on
-      joins x y (Err (link_error.UnknownSecondPort s)) = on
-      joins x y (Err (link_error.IncompatibleDirections s t d)) = on
-      joins x y (Err (link_error.AlreadyLinked s)) = on
-
-      second : (x : ℕ) (v : End) → OnOutputs (link_second_end m p o q r x v).graph
-      second x lacking = on
-      second x (inner y) = joins x y (link_ports m.graph x y).answer
-
-      first : (w : Port) (v : End) → OnOutputs (link_first_end m p o q r w v).graph
-      first w lacking = on
-      first dead (inner x) = on
-      first hidden (inner x) = on
-      first (visible k e) (inner x) = second x (end_at m q e r)
-
-      go : (u v : Port) → OnOutputs (link_sub_seen m p o q r u v).graph
-      go dead v = on
-      go hidden v = on
-      go (visible n d) hidden = on
-      go (visible n d) dead = first dead (end_at m p d o)
-      go (visible n d) (visible k e) = first (visible k e) (end_at m p d o)
-
-      offsets : (g h : Bool) → OnOutputs (cond g (cond h (link_sub_seen m p o q r (seen m p) (seen m q)) (link_refused m BadOffset)) (link_refused m BadOffset)).graph
-      offsets true true = go (seen m p) (seen m q)
-      offsets true false = on
-      offsets false h = on
+  sub_on p o q r = link_sub_each m (λ v. OnOutputs v.graph) p o q r (λ z w. on) (λ x y. links_on m (link_ports m.graph x y).graph (link_nodes m.graph x y) on)

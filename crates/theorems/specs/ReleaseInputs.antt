@@ -9,7 +9,7 @@ use mathlib.Core.List.{[], ◌++◌, flat_map}
 use Rattle.std.proofs.Math.Logic.{⊎_elim}
 use Prim.Native.Nat.{ℕ, ◌-◌, ◌≤◌}
 use Rattle.port_tables.specs.Limits.{present}
-use Rattle.port_tables.specs.Entries.{reversed, same_side}
+use Rattle.port_tables.specs.Entries.{reversed}
 use Rattle.portgraph.specs.Lookups.{num_ports, port_link}
 use Rattle.portgraph.specs.Calls.{add_node, link_ports}
 use Rattle.portgraph.specs.Model as model
@@ -22,15 +22,15 @@ use Rattle.port_tables.specs.declared.index.PortIndex.{PortIndex}
 use Rattle.port_tables.specs.declared.node_entry.NodeMeta.{NodeMeta}
 use Rattle.portgraph.specs.declared.portgraph.PortGraph.{PortGraph}
 use Rattle.multiportgraph.specs.Reading.{is_hidden, is_split, has_link, is_linked, port_of, copy_node, copy_side, subports, seen, end_at, far_subport}
-use Rattle.multi_tables.specs.Forms.{Port, dead, hidden, visible, subport#, wire_to, taken_under}
+use Rattle.multi_tables.specs.Forms.{visible, subport#, wire_to, taken_under}
 use Rattle.multiportgraph.specs.Graph.{with_subports}
 use Rattle.multiportgraph.specs.WellFormed.{Fine, Seen, IsEnd, outer, WireIn}
-use Rattle.multiportgraph.specs.Ends.{BlockPort, Hangs, block_seen, count_of_lem, end_side, ends_join_ends, into_side, linked_is, outer_of_block, outer_side, split_has_copy, subport_count, unlinked_is, unsplit_is_end, wires_by_into}
+use Rattle.multiportgraph.specs.Ends.{Hangs, block_seen, count_in_lem, count_of_lem, end_side, ends_join_ends, into_side, linked_is, outer_of_block, outer_side, split_has_copy, subport_count, unlinked_is, unsplit_is_end, wires_by_into}
 use Rattle.multiportgraph.specs.HiddenStays.{true_not_false}
 use Rattle.multiportgraph.specs.SplitLaws.{PreparedEnd}
 use Rattle.multiportgraph.specs.PrepareLaws.{prepare_law}
 use Rattle.multiportgraph.specs.RecountLaws.{SomeRecount, set_recounts, growth#}
-use Rattle.multiportgraph.specs.HiddenNodes.{enough, full, grow, grown_by, grow_under, lowest_free, more, more_incoming, more_outgoing, Prepared, prepare, prepare_under, ready, recounted, reuse, reuse_under, split, split_by, split_graph, split_port, split_under}
+use Rattle.multiportgraph.specs.HiddenNodes.{enough, grow, grown_by, grow_under, lowest_free, more, more_incoming, more_outgoing, prepare, prepare_under, ready, recounted, reuse, reuse_under, split, split_by, split_graph, split_port, split_under}
 use Rattle.multiportgraph.specs.Tidy.{subports_left, left_incoming, left_outgoing, resized_within, drop_subports, link_directly, tidied}
 use Rattle.multiportgraph.specs.TidyLaws.{DropWithin, within_is, within_set, left_within}
 use Rattle.multiportgraph.specs.Wires.{subports_of_port, wire_of}
@@ -38,24 +38,22 @@ use Rattle.multiportgraph.specs.Walks.{fan_out, port_links}
 use Rattle.port_tables.specs.Places.{Place, Wire, flag}
 use Rattle.multiportgraph.specs.Refusals.{input_taken, wired_input}
 use Rattle.multiportgraph.specs.Calls.{link_clean_if, link_pair_if, link_sub_if, tidy_port}
-use Rattle.multiportgraph.specs.Cases.{link_clean_by, link_first, link_live, link_prepared, link_second, link_seen, tidy_seen}
-use Rattle.multi_tables.specs.NamedEnds.{pair_seen}
-use Rattle.multiportgraph.specs.CaseLaws.{link_cases, link_clean_cases, link_clean_taken, link_sub_taken, link_taken, tidy_cases}
+use Rattle.multiportgraph.specs.CaseLaws.{link_clean_taken, link_sub_taken, link_taken}
 use Rattle.multiportgraph.specs.declared.multiportgraph.MultiPortGraph.{MultiPortGraph}
 use Rattle.port_tables.specs.declared.release.Release.{Release}
 use Rattle.port_tables.specs.declared.release.Release.TheVariants.{Two}
 use Rattle.multiportgraph.specs.declared.multiportgraph.PortsLinked.{PortsLinked}
-use Rattle.multiportgraph.specs.declared.multiportgraph.PortTidied.{PortTidied}
 use Rattle.theorems.specs.Book as book
 use Rattle.theorems.specs.Book.{Call}
 use Rattle.theorems.specs.History.{step}
-use Rattle.theorems.specs.ReleaseHidden.{OnOutputs, add_counts, add_on, count_in_lem, counts_same, cut_on, cut_sub_on, direct_on, link_nodes, links_on, remove_on, set_on, sub_on, table_count, unlink_nodes}
+use Rattle.theorems.specs.CallCases.{link_each, clean_each, tidy_each}
+use Rattle.theorems.specs.ReleaseHidden.{OnOutputs, add_counts, add_on, counts_same, cut_on, cut_sub_on, direct_on, link_nodes, links_on, remove_on, set_on, sub_on, table_count, unlink_nodes}
 use Rattle.portgraph.specs.declared.portgraph.NoSuchPort.{NoSuchPort}
-use Rattle.multi_tables.specs.declared.answers.Refusal.{Refusal}
 use Rattle.portgraph.specs.declared.alloc.AddError.TheVariants as add_error
 use Rattle.portgraph.specs.declared.resize.SetError.TheVariants as set_error
 use Rattle.portgraph.specs.declared.alloc.AddError.{AddError}
 use Rattle.portgraph.specs.declared.resize.SetError.{SetError}
+use Rattle.theorems.specs.PortCases.{free_unless}
 
 -- a port that is not split has a wire exactly if it is linked
 fan_of_unsplit : (m : MultiPortGraph) (p n : ℕ) (d : Direction) → seen m p ≡ visible n d → is_split m p ≡ false → fan_out m p ≡ flag (has_link m.graph p)
@@ -200,7 +198,7 @@ module _ {m : MultiPortGraph} {M : Model} (f : Fine m M) (on : OnOutputs m) wher
   input_still p n e w m' M' z x o r s =
       let b = block_seen f p n Incoming e in
       let plain : is_split m (slot_of M.node b.place) ≡ false = ap (is_split m) b.slot ∙ input_whole p n e in
-      let kept = r.keeps b.place (unsplit_is_end f b.place b.is_seen plain) (free b (M.join b.place) refl) (λ q. sides_apart (sym b.side ∙ (q ∙ s))) in
+      let kept = r.keeps b.place (unsplit_is_end f b.place b.is_seen plain) (free_unless (M.join b.place) (λ y j. true_not_false (ap (has_link m.graph) (sym b.slot) ∙ linked_is f b.place y j) (unwired p n e w))) (λ q. sides_apart (sym b.side ∙ (q ∙ s))) in
       let k = slot_in_block f.good b.place b.is_seen.0 in
       let shown = (r.blocks.0 b.place.node k.0 (b.is_seen.1, k.1)).0 in
       let slot : slot_of M'.node b.place ≡ p = kept.slot ∙ b.slot in
@@ -210,10 +208,6 @@ module _ {m : MultiPortGraph} {M : Model} (f : Fine m M) (on : OnOutputs m) wher
     where
       sides_apart : Incoming ≡ Outgoing → ⊥
       sides_apart q = zero_is_not_one (cc)
-
-      free : (b : BlockPort m M p n Incoming) (v : Far) → M.join b.place ≡ v → M.join b.place ≡ nowhere
-      free b nowhere j = j
-      free b (to y) j = absurd (true_not_false (ap (has_link m.graph) (sym b.slot) ∙ linked_is f b.place y j) (unwired p n e w))
 
 module _ {m : MultiPortGraph} {M : Model} (f : Fine m M) (on : OnOutputs m) where
   -- both ends
@@ -233,38 +227,13 @@ module _ {m : MultiPortGraph} {M : Model} (f : Fine m M) (on : OnOutputs m) wher
       end_on f on b k Incoming t v m₂ y r (ap (λ (u : MultiPortGraph). prepare u b Incoming) same ∙ h)
 
   link_on : (a b : ℕ) → wired_input m a ≡ false → wired_input m b ≡ false → OnOutputs (link_pair_if false present m a b).graph
-  link_on a b wa wb = subst (λ (v : PortsLinked). OnOutputs v.graph) (sym (link_cases present m a b)) (go (seen m a) (seen m b) refl refl)
-    where
-      first : (n : ℕ) (d : Direction) → seen m a ≡ visible n d → (P : Prepared) → prepare m a d ≡ P → OnOutputs (link_first m b P).graph
-      first n d s full g = on
-      first n d s (ready m₁ x o) g = end_on f on a n d s wa m₁ x o g
-
-      sides : (d : Direction) (x o : ℕ) (e : Direction) (m₂ : MultiPortGraph) (y r : ℕ) → OnOutputs m₂ → (c : Bool) → same_side d e ≡ c → OnOutputs (link_prepared m₂ a d x o b e y r).graph
-      sides d x o e m₂ y r t true j = rw j t
-      sides d x o e m₂ y r t false j = rw j (links_on m₂ (link_ports m₂.graph x y).graph (link_nodes m₂.graph x y) t)
-
-      second : (n : ℕ) (d : Direction) → seen m a ≡ visible n d → (k : ℕ) (e : Direction) → seen m b ≡ visible k e → (m₁ : MultiPortGraph) (x o : ℕ) → prepare m a d ≡ ready m₁ x o →
-          (Q : Prepared) → prepare m₁ b e ≡ Q → OnOutputs (link_second m a d x o b e Q).graph
-      second n d s k e t m₁ x o g full h = on
-      second n d s k e t m₁ x o g (ready m₂ y r) h = sides d x o e m₂ y r (second_on a n d b k e s wa t wb m₁ x o g m₂ y r h) (same_side d e) refl
-
-      both : (n : ℕ) (d : Direction) → seen m a ≡ visible n d → (k : ℕ) (e : Direction) → seen m b ≡ visible k e → (P : Prepared) → prepare m a d ≡ P → OnOutputs (link_live m a d b e P).graph
-      both n d s k e t full g = on
-      both n d s k e t (ready m₁ x o) g = second n d s k e t m₁ x o g (prepare m₁ b e) refl
-
-      go : (u v : Port) → seen m a ≡ u → seen m b ≡ v → OnOutputs (link_seen m a b u v).graph
-      go dead v s t = on
-      go hidden v s t = on
-      go (visible n d) hidden s t = on
-      go (visible n d) dead s t = first n d s (prepare m a d) refl
-      go (visible n d) (visible k e) s t = both n d s k e t (prepare m a d) refl
+  link_on a b wa wb =
+      link_each m (λ v. OnOutputs v.graph) a b (λ z w. on) (λ n d s m₁ x o g z w. end_on f on a n d s wa m₁ x o g)
+      (λ n d s k e t m₁ x o g m₂ y r h.
+      let both = second_on a n d b k e s wa t wb m₁ x o g m₂ y r h in ((λ z w. both), links_on m₂ (link_ports m₂.graph x y).graph (link_nodes m₂.graph x y) both))
 
   clean_on : (a b : ℕ) → wired_input m a ≡ false → wired_input m b ≡ false → OnOutputs (link_clean_if false present m a b).graph
-  clean_on a b wa wb = subst (λ (v : PortsLinked). OnOutputs v.graph) (sym (link_clean_cases present m a b)) (go (pair_seen a b (seen m a) (seen m b)))
-    where
-      go : (v : Result (Unit {0}) Refusal) → OnOutputs (link_clean_by present m a b v).graph
-      go (Err r) = on
-      go (Ok tt) = link_on a b wa wb
+  clean_on a b wa wb = clean_each m (λ v. OnOutputs v.graph) a b (λ z w. on) (link_on a b wa wb)
 
   -- Tidying a port.
 
@@ -305,7 +274,7 @@ module _ {m : MultiPortGraph} {M : Model} (f : Fine m M) (on : OnOutputs m) wher
       go false e = direct_on f on (slot_of M.node x) x.side
 
   tidy_on : (p : ℕ) → OnOutputs (tidy_port m p).graph
-  tidy_on p = subst (λ (v : PortTidied). OnOutputs v.graph) (sym (tidy_cases m p)) (go (seen m p) refl)
+  tidy_on p = tidy_each m (λ v. OnOutputs v.graph) p (λ z w. on) here
     where
       here : (n : ℕ) (d : Direction) → seen m p ≡ visible n d → (b : Bool) → is_split m p ≡ b → OnOutputs (cond b (tidied m p d) m)
       here n d e false s = on
@@ -314,11 +283,6 @@ module _ {m : MultiPortGraph} {M : Model} (f : Fine m M) (on : OnOutputs m) wher
           let b = block_seen f p n Outgoing e in
           subst (λ (d : Direction). OnOutputs (tidied m p d)) b.side
           (subst (λ (q : ℕ). OnOutputs (tidied m q b.place.side)) b.slot (tidied_on b.place b.is_seen b.side (ap (is_split m) b.slot ∙ s)))
-
-      go : (u : Port) → seen m p ≡ u → OnOutputs (tidy_seen m p u).graph
-      go dead e = on
-      go hidden e = on
-      go (visible n d) e = here n d e (is_split m p) refl
 
   -- Every call under release 2.
 

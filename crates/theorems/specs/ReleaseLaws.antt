@@ -64,10 +64,6 @@ module _ (r : Release) where
     unfolding end_at is_split subports copy_node subport_at
     end_for p d o = refl
 
-    read_for : (p o : ℕ) → as_read (for_release r m) p o ≡ as_read m p o
-    unfolding as_read is_split
-    read_for p o = refl
-
     subport_for : (q : ℕ) → subport_of (for_release r m) q ≡ subport_of m q
     unfolding subport_of is_hidden main_port copy_side is_split
     subport_for q = refl

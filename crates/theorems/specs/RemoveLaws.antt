@@ -1,6 +1,6 @@
 -- Removing a block: its ports lose their hidden nodes one by one, then the node itself goes.
 -- Every wire at the block goes, and nothing else changes.
-use Rattle.std.proofs.lemmas.Bool.{cases_Bool}
+use Rattle.std.proofs.lemmas.Bool.{cases_Bool, false_from_ne_true}
 use Rattle.std.specs.Prelude.{◌≡◌, refl, Bool, true, false, cond, [], ℕ, zero, suc, ◌+◌, ◌-◌, ◌≤◌, ◌<◌, eqb, ltb, Option, Some, None, Result, Ok, Err}
 use Rattle.std.proofs.Common.{sym, ◌∙◌, ap, subst, inl, ⊎_elim, arith, eq-eqb, ne_eqb, eqb-true}
 use Rattle.std.proofs.lemmas.Bool.{eqb-false}
@@ -48,14 +48,14 @@ pub record Passed (m : MultiPortGraph) (M : Model) (m' : MultiPortGraph) (M' : M
   pub unsplit : (s : ℕ) → p ≤ s → s < p + j → is_split m' s ≡ false
 
 not_split : (m m' : MultiPortGraph) (s : ℕ) → ((s : ℕ) → is_split m' s ≡ true → is_split m s ≡ true) → is_split m s ≡ false → is_split m' s ≡ false
-not_split m m' s only n = ⊎_elim (λ t. absurd (true_not_false (only s t) n)) (λ e. e) (cases_Bool (is_split m' s))
+not_split m m' s only n = false_from_ne_true (is_split m' s) (λ t. true_not_false (only s t) n)
 
 -- a test that a stronger one implies
 touches_less : (t u : Place → Bool) (w : Wire) → ((v : Place) → t v ≡ true → u v ≡ true) → touches u w ≡ false → touches t w ≡ false
 touches_less t u w less n =
     touches_neither t w
-    (⊎_elim (λ a. absurd (true_not_false (less w.out a) (touched_not_out u w n))) (λ e. e) (cases_Bool (t w.out)))
-    (⊎_elim (λ a. absurd (true_not_false (less w.into a) (touched_not_into u w n))) (λ e. e) (cases_Bool (t w.into)))
+    (false_from_ne_true (t w.out) (λ a. true_not_false (less w.out a) (touched_not_out u w n)))
+    (false_from_ne_true (t w.into) (λ a. true_not_false (less w.into a) (touched_not_into u w n)))
 
 passed_one : {m m₁ m₂ : MultiPortGraph} {M M₁ M₂ : Model} {n : ℕ} (x : model.InnerPlace) (p j : ℕ) → x.node ≡ n → slot_of M.node x ≡ p → CopyGone m M x m₁ M₁ → Passed m₁ M₁ m₂ M₂ n (suc p) j → Passed m M m₂ M₂ n p (suc j)
 passed_one {m} {m₁} {m₂} {M} {M₁} {M₂} {n} x p j ex ep g r =
@@ -136,16 +136,16 @@ module _ {m : MultiPortGraph} {M : Model} (f : Fine m M) (n : ℕ) (k : NodeMeta
   abbrev without_node : MultiPortGraph
   without_node = with_graph m (remove_node m.graph n).graph
 
-  hidden_is_other : (c : ℕ) → is_hidden m c ≡ true → c ≡ n → ⊥
+  pub hidden_is_other : (c : ℕ) → is_hidden m c ≡ true → c ≡ n → ⊥
   hidden_is_other c h e = true_not_false h (ap (is_hidden m) e ∙ b.0)
 
   main_is_other : (c : ℕ) (x : model.InnerPlace) → is_hidden m c ≡ true → M.join (copy_place m c) ≡ to x → x.node ≡ n → ⊥
   main_is_other c x h j e = true_not_false (f.main_marked c x h j) (whole x (main_seen f c x h j).0 e)
 
-  stays_joined : (z u : model.InnerPlace) → M.join z ≡ to u → (z.node ≡ n → ⊥) → (u.node ≡ n → ⊥) → (remove_model M n k).join z ≡ to u
+  pub stays_joined : (z u : model.InnerPlace) → M.join z ≡ to u → (z.node ≡ n → ⊥) → (u.node ≡ n → ⊥) → (remove_model M n k).join z ≡ to u
   stays_joined z u j p q = drop_kept (at_node n) M.join z u j (ne_eqb z.node n p) (ne_eqb u.node n q)
 
-  node_frame : Frame m M without_node (remove_model M n k)
+  pub node_frame : Frame m M without_node (remove_model M n k)
   node_frame =
       plain_frame f (good_remove f.good n k b.1) (removed_holds f.good f.holds n k b.1)
       (λ c h. upd_other M.node n gone c (hidden_is_other c h))

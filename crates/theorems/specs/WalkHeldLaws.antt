@@ -1,5 +1,6 @@
 -- A cursor whose node or port is gone or hidden ends its walk, and a step never gives an item that is not listed or does not lie
 -- beyond what its cursor holds. Each holds of any graph and any cursor.
+use Rattle.portgraph.specs.Joins.{either_way}
 use Rattle.std.specs.Prelude.{◌≡◌, Bool, ◌⊎◌, ℕ, suc, ◌-◌, ◌≤◌, eqb, leb, Some, None, Option}
 use Rattle.std.proofs.Math.Path.{refl, sym, ap}
 use Rattle.std.proofs.Common.{◌∙◌, subst}
@@ -45,15 +46,25 @@ unfolding node_held
 node_gone m held n e s = ap (node_held m) e ∙ rw (ne_eqb (suc n) 0 (λ z. omega arith), one_less n) s
 
 both_gone : (m : MultiPortGraph) (n held p : ℕ) → held ≡ suc p → is_seen (seen m p) ≡ false → both_seen m n held ≡ false
-both_gone m n held p e s = rw (held_gone m held p e s) (go (is_block m n))
-  where
-    go : (b : Bool) → cond b false false ≡ false
-    go true = refl
-    go false = refl
+both_gone m n held p e s = rw (held_gone m held p e s) (either_way (is_block m n) false)
 
-either_none : (b : Bool) → ◌≡◌ {A = List ℕ} (cond b [] []) []
-either_none true = refl
-either_none false = refl
+-- what is read at a port that is not a block's
+pub links_unseen : (m : MultiPortGraph) (p : ℕ) (v : Port) → is_seen v ≡ false → port_links_seen m p v ≡ []
+links_unseen m p dead e = refl
+links_unseen m p hidden e = refl
+links_unseen m p (visible n d) e = absurd (zero_is_not_one (cc))
+
+pub wires_unseen : (m : MultiPortGraph) (p o : ℕ) (v : Port) → is_seen v ≡ false → wires_seen m p o v ≡ None
+wires_unseen m p o dead e = refl
+wires_unseen m p o hidden e = refl
+wires_unseen m p o (visible n d) e = absurd (zero_is_not_one (cc))
+
+-- a step over all wires, by the port that its cursor holds
+pub step_holding : (m : MultiPortGraph) (c : Wires) (p : ℕ) → c.held.port ≡ suc p → step_wires m c ≡ wires_seen m p c.held.offset (seen m p)
+unfolding step_wires
+step_holding m c p e =
+    ap (λ (h : ℕ). cond (eqb h 0) (first_item (all_wires m)) (wires_seen m (h - 1) c.held.offset (seen m (h - 1)))) e
+    ∙ rw (ne_eqb (suc p) 0 (λ z. omega arith), one_less p)
 
 module _ (m : MultiPortGraph) where
   -- Blocks, either end: a block that the cursor holds is not one any more.
@@ -61,7 +72,7 @@ module _ (m : MultiPortGraph) where
   no_blocks_left : (c : Nodes) (n : ℕ) → (c.front ≡ suc n) ⊎ (c.back ≡ suc n) → is_block m n ≡ false → blocks_left m c ≡ []
   unfolding blocks_left
   no_blocks_left c n (inl e) g = rw (node_gone m c.front n e g)
-  no_blocks_left c n (inr e) g = rw (node_gone m c.back n e g) (either_none (node_held m c.front))
+  no_blocks_left c n (inr e) g = rw (node_gone m c.back n e g) (either_way (node_held m c.front) [])
 
   pub nodes_end : (c : Nodes) (n : ℕ) → (c.front ≡ suc n) ⊎ (c.back ≡ suc n) → is_block m n ≡ false → (step_nodes m c ≡ None) × (step_nodes_back m c ≡ None)
   unfolding step_nodes step_nodes_back on_first on_last
@@ -72,7 +83,7 @@ module _ (m : MultiPortGraph) where
   no_ports_left : (c : Ports) (p : ℕ) → (c.front ≡ suc p) ⊎ (c.back ≡ suc p) → is_seen (seen m p) ≡ false → ports_left m c ≡ []
   unfolding ports_left
   no_ports_left c p (inl e) g = rw (held_gone m c.front p e g)
-  no_ports_left c p (inr e) g = rw (held_gone m c.back p e g) (either_none (held_seen m c.front))
+  no_ports_left c p (inr e) g = rw (held_gone m c.back p e g) (either_way (held_seen m c.front) [])
 
   pub ports_end : (c : Ports) (p : ℕ) → (c.front ≡ suc p) ⊎ (c.back ≡ suc p) → is_seen (seen m p) ≡ false → (step_all_ports m c ≡ None) × (step_all_ports_back m c ≡ None)
   unfolding step_all_ports step_all_ports_back on_first on_last
@@ -82,12 +93,7 @@ module _ (m : MultiPortGraph) where
 
   no_links_left : (c : PortLinks) → is_seen (seen m c.port.0) ≡ false → links_left m c ≡ []
   unfolding links_left port_links
-  no_links_left c g = ap (filter (λ w. between c.front c.back w.from.subport_offset)) (go (seen m c.port.0) g)
-    where
-      go : (v : Port) → is_seen v ≡ false → port_links_seen m c.port.0 v ≡ []
-      go dead e = refl
-      go hidden e = refl
-      go (visible n d) e = absurd (zero_is_not_one (cc))
+  no_links_left c g = ap (filter (λ w. between c.front c.back w.from.subport_offset)) (links_unseen m c.port.0 (seen m c.port.0) g)
 
   pub port_links_end : (c : PortLinks) → is_seen (seen m c.port.0) ≡ false → (step_front m c ≡ None) × (step_back m c ≡ None)
   unfolding step_front step_back on_first on_last
@@ -129,11 +135,7 @@ module _ (m : MultiPortGraph) where
 
   connections_none : (c : NodeConnections) → both_seen m c.node.0 c.held.port ≡ false → step_connections m c ≡ None
   unfolding step_connections
-  connections_none c g = rw g (go (is_block m c.target.0))
-    where
-      go : (b : Bool) → ◌≡◌ {A = Option (SubportLink × NodeConnections)} (cond b None None) None
-      go true = refl
-      go false = refl
+  connections_none c g = rw g (either_way (is_block m c.target.0) None)
 
   pub connections_end : (c : NodeConnections) → is_block m c.node.0 ≡ false → step_connections m c ≡ None
   connections_end c g = connections_none c (rw g)
@@ -148,15 +150,7 @@ module _ (m : MultiPortGraph) where
   -- The list of all wires: the port held is not a block's any more.
 
   pub wires_end : (c : Wires) (p : ℕ) → c.held.port ≡ suc p → is_seen (seen m p) ≡ false → step_wires m c ≡ None
-  unfolding step_wires
-  wires_end c p e g =
-      ap (λ (h : ℕ). cond (eqb h 0) (first_item (all_wires m)) (wires_seen m (h - 1) c.held.offset (seen m (h - 1)))) e
-      ∙ rw (ne_eqb (suc p) 0 (λ z. omega arith), one_less p) (go (seen m p) g)
-    where
-      go : (v : Port) → is_seen v ≡ false → wires_seen m p c.held.offset v ≡ None
-      go dead q = refl
-      go hidden q = refl
-      go (visible n d) q = absurd (zero_is_not_one (cc))
+  wires_end c p e g = step_holding m c p e ∙ wires_unseen m p c.held.offset (seen m p) g
 
 -- What a step gives is listed, lies beyond what the cursor holds, and is what the cursor holds next.
 
@@ -175,6 +169,14 @@ module _ {A S : Type 0} where
       later : (x : A) (l : List A) → on_last (f x) f l ≡ s → (y : A) × Member y (x ∷ l) × (f y ≡ s)
       later x [] q = (x, inl refl, q)
       later x (y ∷ l) q = let r = later y l q in (r.0, inr r.1, r.2)
+
+-- an item given and the cursor that comes with it, by what the item is made of
+step_gave : {A B C : Type 0} (make : A → B) (of : B → A) (next : A → C) → ((a : A) → of (make a) ≡ a) → (l : List A) (b : B) (c : C) →
+    (x : A) × Member x l × (◌≡◌ {A = Option (B × C)} (Some (make x, next x)) (Some (b, c))) → Member (of b) l × (c ≡ next (of b))
+step_gave make of next back l b c r =
+    let p = some_pair_parts _ _ _ _ r.2 in
+    let v : r.0 ≡ of b = sym (back r.0) ∙ ap of p.0 in
+    (subst (λ a. Member a l) v r.1, sym p.1 ∙ ap next v)
 
 member_if : {A : Type 0} (b : Bool) (x : A) (l : List A) → Member x (cond b l []) → Member x l
 member_if true x l i = i
@@ -199,25 +201,17 @@ module _ (m : MultiPortGraph) where
       Member n.0 (blocks m) × (between c.front c.back n.0 ≡ true) × (d ≡ nodes_at (suc n.0) c.back)
   unfolding step_nodes
   nodes_give c d n e =
-      let r = first_found true None (λ k. Some (node# k, nodes_at (suc k) c.back)) (blocks_left m c) (Some (n, d)) e (λ z. zero_is_not_one (cc)) in
-      let p = some_pair_parts _ _ _ _ r.2 in
-      let q : node# r.0 ≡ n = p.0 in
-      let s : nodes_at (suc r.0) c.back ≡ d = p.1 in
-      let v : r.0 ≡ n.0 = ap (λ (k : NodeIndex). k.0) q in
-      let b = block_left c n.0 (subst (λ (k : ℕ). Member k (blocks_left m c)) v r.1) in
-      (b.0, b.1, sym s ∙ ap (λ (k : ℕ). nodes_at (suc k) c.back) v)
+      let r = step_gave (λ k. node# k) (λ (k : NodeIndex). k.0) (λ k. nodes_at (suc k) c.back) (λ a. refl) (blocks_left m c) n d (first_found true None (λ k. Some (node# k, nodes_at (suc k) c.back)) (blocks_left m c) (Some (n, d)) e (λ z. zero_is_not_one (cc))) in
+      let b = block_left c n.0 r.0 in
+      (b.0, b.1, r.1)
 
   pub nodes_give_back : (c d : Nodes) (n : NodeIndex) → step_nodes_back m c ≡ Some (n, d) →
       Member n.0 (blocks m) × (between c.front c.back n.0 ≡ true) × (d ≡ nodes_at c.front (suc n.0))
   unfolding step_nodes_back
   nodes_give_back c d n e =
-      let r = last_found None (λ k. Some (node# k, nodes_at c.front (suc k))) (blocks_left m c) (Some (n, d)) e (λ z. zero_is_not_one (cc)) in
-      let p = some_pair_parts _ _ _ _ r.2 in
-      let q : node# r.0 ≡ n = p.0 in
-      let s : nodes_at c.front (suc r.0) ≡ d = p.1 in
-      let v : r.0 ≡ n.0 = ap (λ (k : NodeIndex). k.0) q in
-      let b = block_left c n.0 (subst (λ (k : ℕ). Member k (blocks_left m c)) v r.1) in
-      (b.0, b.1, sym s ∙ ap (λ (k : ℕ). nodes_at c.front (suc k)) v)
+      let r = step_gave (λ k. node# k) (λ (k : NodeIndex). k.0) (λ k. nodes_at c.front (suc k)) (λ a. refl) (blocks_left m c) n d (last_found None (λ k. Some (node# k, nodes_at c.front (suc k))) (blocks_left m c) (Some (n, d)) e (λ z. zero_is_not_one (cc))) in
+      let b = block_left c n.0 r.0 in
+      (b.0, b.1, r.1)
 
   port_left : (c : Ports) (p : ℕ) → Member p (ports_left m c) → Member p (all_ports m) × (between c.front c.back p ≡ true)
   unfolding ports_left
@@ -230,25 +224,17 @@ module _ (m : MultiPortGraph) where
       Member p.0 (all_ports m) × (between c.front c.back p.0 ≡ true) × (d ≡ ports_at (suc p.0) c.back)
   unfolding step_all_ports
   ports_give c d p e =
-      let r = first_found true None (λ k. Some (port# k, ports_at (suc k) c.back)) (ports_left m c) (Some (p, d)) e (λ z. zero_is_not_one (cc)) in
-      let o = some_pair_parts _ _ _ _ r.2 in
-      let q : port# r.0 ≡ p = o.0 in
-      let s : ports_at (suc r.0) c.back ≡ d = o.1 in
-      let v : r.0 ≡ p.0 = ap (λ (k : PortIndex). k.0) q in
-      let b = port_left c p.0 (subst (λ (k : ℕ). Member k (ports_left m c)) v r.1) in
-      (b.0, b.1, sym s ∙ ap (λ (k : ℕ). ports_at (suc k) c.back) v)
+      let r = step_gave (λ k. port# k) (λ (k : PortIndex). k.0) (λ k. ports_at (suc k) c.back) (λ a. refl) (ports_left m c) p d (first_found true None (λ k. Some (port# k, ports_at (suc k) c.back)) (ports_left m c) (Some (p, d)) e (λ z. zero_is_not_one (cc))) in
+      let b = port_left c p.0 r.0 in
+      (b.0, b.1, r.1)
 
   pub ports_give_back : (c d : Ports) (p : PortIndex) → step_all_ports_back m c ≡ Some (p, d) →
       Member p.0 (all_ports m) × (between c.front c.back p.0 ≡ true) × (d ≡ ports_at c.front (suc p.0))
   unfolding step_all_ports_back
   ports_give_back c d p e =
-      let r = last_found None (λ k. Some (port# k, ports_at c.front (suc k))) (ports_left m c) (Some (p, d)) e (λ z. zero_is_not_one (cc)) in
-      let o = some_pair_parts _ _ _ _ r.2 in
-      let q : port# r.0 ≡ p = o.0 in
-      let s : ports_at c.front (suc r.0) ≡ d = o.1 in
-      let v : r.0 ≡ p.0 = ap (λ (k : PortIndex). k.0) q in
-      let b = port_left c p.0 (subst (λ (k : ℕ). Member k (ports_left m c)) v r.1) in
-      (b.0, b.1, sym s ∙ ap (λ (k : ℕ). ports_at c.front (suc k)) v)
+      let r = step_gave (λ k. port# k) (λ (k : PortIndex). k.0) (λ k. ports_at c.front (suc k)) (λ a. refl) (ports_left m c) p d (last_found None (λ k. Some (port# k, ports_at c.front (suc k))) (ports_left m c) (Some (p, d)) e (λ z. zero_is_not_one (cc))) in
+      let b = port_left c p.0 r.0 in
+      (b.0, b.1, r.1)
 
   link_left : (c : PortLinks) (w : SubportLink) → Member w (links_left m c) → Member w (port_links m c.port.0) × (between c.front c.back (link_offset w) ≡ true)
   unfolding links_left
@@ -258,51 +244,37 @@ module _ (m : MultiPortGraph) where
       Member w (port_links m c.port.0) × (between c.front c.back (link_offset w) ≡ true) × (d ≡ port_links_at c.port (suc (link_offset w)) c.back)
   unfolding step_front
   port_links_give c d w e =
-      let r = first_found true None (λ v. Some (v, port_links_at c.port (suc (link_offset v)) c.back)) (links_left m c) (Some (w, d)) e (λ z. zero_is_not_one (cc)) in
-      let p = some_pair_parts _ _ _ _ r.2 in
-      let v : r.0 ≡ w = p.0 in
-      let s : port_links_at c.port (suc (link_offset r.0)) c.back ≡ d = p.1 in
-      let b = link_left c w (subst (λ (x : SubportLink). Member x (links_left m c)) v r.1) in
-      (b.0, b.1, sym s ∙ ap (λ (x : SubportLink). port_links_at c.port (suc (link_offset x)) c.back) v)
+      let r = step_gave (λ v. v) (λ v. v) (λ v. port_links_at c.port (suc (link_offset v)) c.back) (λ a. refl) (links_left m c) w d (first_found true None (λ v. Some (v, port_links_at c.port (suc (link_offset v)) c.back)) (links_left m c) (Some (w, d)) e (λ z. zero_is_not_one (cc))) in
+      let b = link_left c w r.0 in
+      (b.0, b.1, r.1)
 
   pub port_links_give_back : (c d : PortLinks) (w : SubportLink) → step_back m c ≡ Some (w, d) →
       Member w (port_links m c.port.0) × (between c.front c.back (link_offset w) ≡ true) × (d ≡ port_links_at c.port c.front (suc (link_offset w)))
   unfolding step_back
   port_links_give_back c d w e =
-      let r = last_found None (λ v. Some (v, port_links_at c.port c.front (suc (link_offset v)))) (links_left m c) (Some (w, d)) e (λ z. zero_is_not_one (cc)) in
-      let p = some_pair_parts _ _ _ _ r.2 in
-      let v : r.0 ≡ w = p.0 in
-      let s : port_links_at c.port c.front (suc (link_offset r.0)) ≡ d = p.1 in
-      let b = link_left c w (subst (λ (x : SubportLink). Member x (links_left m c)) v r.1) in
-      (b.0, b.1, sym s ∙ ap (λ (x : SubportLink). port_links_at c.port c.front (suc (link_offset x))) v)
+      let r = step_gave (λ v. v) (λ v. v) (λ v. port_links_at c.port c.front (suc (link_offset v))) (λ a. refl) (links_left m c) w d (last_found None (λ v. Some (v, port_links_at c.port c.front (suc (link_offset v)))) (links_left m c) (Some (w, d)) e (λ z. zero_is_not_one (cc))) in
+      let b = link_left c w r.0 in
+      (b.0, b.1, r.1)
 
   pub node_ports_give : (c d : NodePorts) (p : PortIndex) → step_node_ports m c ≡ Some (p, d) →
       Member p.0 (ports_of_node m c.node.0 c.sides) × (c.held ≤ p.0) × (d ≡ ports_held c p.0)
   unfolding step_node_ports
   node_ports_give c d p e =
-      let r =
-      first_found (both_seen m c.node.0 c.held) None (λ k. Some (port# k, ports_held c k))
-      (filter (leb c.held) (ports_of_node m c.node.0 c.sides)) (Some (p, d)) e (λ z. zero_is_not_one (cc)) in
-      let o = some_pair_parts _ _ _ _ r.2 in
-      let q : port# r.0 ≡ p = o.0 in
-      let v : r.0 ≡ p.0 = ap (λ (k : PortIndex). k.0) q in
-      let s : ports_held c r.0 ≡ d = o.1 in
-      let b = member_filter (leb c.held) r.0 (ports_of_node m c.node.0 c.sides) r.1 in
-      let l = leb-true c.held r.0 b.1 in
-      (subst (λ (k : ℕ). Member k (ports_of_node m c.node.0 c.sides)) v b.0, omega arith, sym s ∙ ap (ports_held c) v)
+      let l = filter (leb c.held) (ports_of_node m c.node.0 c.sides) in
+      let r = step_gave (λ k. port# k) (λ (k : PortIndex). k.0) (ports_held c) (λ a. refl) l p d
+      (first_found (both_seen m c.node.0 c.held) None (λ k. Some (port# k, ports_held c k)) l (Some (p, d)) e (λ z. zero_is_not_one (cc))) in
+      let b = member_filter (leb c.held) p.0 (ports_of_node m c.node.0 c.sides) r.0 in
+      (b.0, leb-true c.held p.0 b.1, r.1)
 
   pub subports_give : (c d : NodeSubports) (s : SubportIndex) → step_subports m c ≡ Some (s, d) →
       Member s (subports_of m c.node.0 c.sides) × (subport_beyond c.held.port c.held.offset s ≡ true) × (d ≡ subport_held c s)
   unfolding step_subports
   subports_give c d s e =
-      let r =
-      first_found (both_seen m c.node.0 c.held.port) None (λ t. Some (t, subport_held c t))
-      (filter (subport_beyond c.held.port c.held.offset) (subports_of m c.node.0 c.sides)) (Some (s, d)) e (λ z. zero_is_not_one (cc)) in
-      let o = some_pair_parts _ _ _ _ r.2 in
-      let v : r.0 ≡ s = o.0 in
-      let h : subport_held c r.0 ≡ d = o.1 in
-      let b = member_filter (subport_beyond c.held.port c.held.offset) s (subports_of m c.node.0 c.sides) (subst (λ (t : SubportIndex). Member t (filter (subport_beyond c.held.port c.held.offset) (subports_of m c.node.0 c.sides))) v r.1) in
-      (b.0, b.1, sym h ∙ ap (subport_held c) v)
+      let l = filter (subport_beyond c.held.port c.held.offset) (subports_of m c.node.0 c.sides) in
+      let r = step_gave (λ t. t) (λ t. t) (subport_held c) (λ a. refl) l s d
+      (first_found (both_seen m c.node.0 c.held.port) None (λ t. Some (t, subport_held c t)) l (Some (s, d)) e (λ z. zero_is_not_one (cc))) in
+      let b = member_filter (subport_beyond c.held.port c.held.offset) s (subports_of m c.node.0 c.sides) r.0 in
+      (b.0, b.1, r.1)
 
   pub links_give : (c d : NodeLinks) (w : SubportLink) → step_links m c ≡ Some (w, d) →
       Member w (node_links m c.node.0 c.sides c.skip.from c.skip.to) × (link_beyond c.held.port c.held.offset w ≡ true) × (Some (w, d) ≡ links_item c w)

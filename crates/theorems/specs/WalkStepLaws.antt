@@ -1,5 +1,6 @@
 -- Every walk of 01 gives its listing whole, in order, and then the end; from any cursor it gives what the cursor leaves of the
 -- listing. Walks with two ends do so from the back too, and by turns in any order no item comes twice.
+use Rattle.portgraph.specs.Joins.{either_way}
 use Rattle.std.specs.Prelude.{◌≡◌, refl, Bool, true, false, cond, eqb, leb, ltb, Option, Some, None, Result, Ok, Err}
 use Rattle.std.proofs.Common.{sym, ◌∙◌, arith, lt-ltb, le-ltb, le-leb, ne_eqb, ltb-true, leb-true, eqb-true}
 use Rattle.std.proofs.Math.Path.{ap}
@@ -15,13 +16,13 @@ use Rattle.portgraph.specs.GoodSlots.{zero_is_not_one}
 use Rattle.portgraph.specs.WalkLaws.{one_less}
 use Rattle.port_tables.specs.declared.index.PortIndex.{PortIndex}
 use Rattle.port_tables.specs.declared.direction.Direction.{Direction}
-use Rattle.multiportgraph.specs.Reading.{is_split, seen, subports, end_at, link_of_end}
-use Rattle.multi_tables.specs.Forms.{Port, dead, hidden, visible, subport#, wire_to}
+use Rattle.multiportgraph.specs.Reading.{is_split, seen, subports}
+use Rattle.multi_tables.specs.Forms.{Port, dead, hidden, visible, subport#}
 use Rattle.multiportgraph.specs.Wires.{is_block, blocks, subports_of_port, wire_of}
 use Rattle.multiportgraph.specs.Walks.{Start, started, refused, is_seen, held_seen, between, node_held, blocks_left, step_nodes, step_nodes_back, all_ports, ports_left, step_all_ports, step_all_ports_back, port_links_seen, port_links, links_left, step_front, step_back, start_at_port, port_links_from, start_port_links}
 use Rattle.port_tables.specs.Listing.{Apart, member_filter, filter_all, rising_filter, rising_flat_map, rising_map, range_rises, rising_apart}
-use Rattle.multiportgraph.specs.ScanLaws.{wire_stands}
-use Rattle.theorems.specs.Cursors.{Turns, turns, Stepped, item, end, walk, From, walk_ends, take_ends, backwards, Listed, Fronts, Backs, walk_front, walk_back, walk_ends_lem, first_map, last_map, walk_nothing, ends_nothing}
+use Rattle.multiportgraph.specs.ScanLaws.{first_map, last_map, wire_stands}
+use Rattle.theorems.specs.Cursors.{Turns, turns, Stepped, item, end, walk, From, walk_ends, take_ends, backwards, Listed, Fronts, Backs, walk_front, walk_back, walk_ends_lem, walk_nothing, ends_nothing}
 use Rattle.multiportgraph.specs.declared.multiportgraph.MultiPortGraph.{MultiPortGraph}
 use Rattle.multi_tables.specs.declared.answers.SubportIndex.{SubportIndex}
 use Rattle.multi_tables.specs.declared.answers.SubportLink.{SubportLink}
@@ -30,8 +31,7 @@ use Rattle.multiportgraph.specs.declared.iter.Ports.{Ports}
 use Rattle.multiportgraph.specs.declared.iter.PortLinks.{PortLinks}
 use Rattle.port_tables.specs.declared.index.NodeIndex.{NodeIndex}
 use Rattle.multi_tables.specs.declared.answers.Refusal.{Refusal}
-use Rattle.multi_tables.specs.declared.answers.PortPlace.{PortPlace}
-use Rattle.multiportgraph.specs.WalkRule.{blocks_rise}
+use Rattle.multiportgraph.specs.WalkRule.{blocks_rise, wire_rises}
 use Rattle.portgraph.specs.Walks.{whole}
 
 -- The steps, in one form.
@@ -91,11 +91,7 @@ below_front f b x l = rw (lt-leb f x l)
 
 above_back : (f b x : ℕ) → b ≤ suc x → 0 < b → between f b x ≡ false
 unfolding between
-above_back f b x l h = rw (ne_eqb b 0 (λ e. omega arith), le-ltb (suc x) b l) (go (leb f x))
-  where
-    go : (t : Bool) → cond t false false ≡ false
-    go true = refl
-    go false = refl
+above_back f b x l h = rw (ne_eqb b 0 (λ e. omega arith), le-ltb (suc x) b l) (either_way (leb f x) false)
 
 -- A walk with two ends over a list that ascends by a number, while what either end holds is still there.
 
@@ -283,16 +279,6 @@ module _ (m : MultiPortGraph) where
 
 -- The links of a port of any graph.
 
--- a subport has one wire or none
-wire_rises : (R : SubportLink → SubportLink → Type 0) (m : MultiPortGraph) (d : Direction) (s : SubportIndex) → Rising R (wire_of m d s)
-unfolding wire_of
-wire_rises R m d s = go (link_of_end m s.port.0 (end_at m s.port.0 d s.subport_offset))
-  where
-    go : (a : Result (Option (SubportIndex × PortPlace)) Refusal) → Rising R (wire_to s a)
-    go (Ok (Some (t, x))) = ((λ y i. absurd i), tt)
-    go (Ok None) = tt
-    go (Err r) = tt
-
 abbrev pub subport_offset : SubportIndex → ℕ
 subport_offset s = s.subport_offset
 
@@ -319,6 +305,12 @@ port_links_rise m p = go (seen m p)
         rising_flat_map (λ s t. subport_offset s < subport_offset t) (λ v w. link_offset v < link_offset w) (wire_of m d) (subports_of_port m d p)
         (subports_of_port_rise m d p) (λ s i. wire_rises (λ v w. link_offset v < link_offset w) m d s)
         (λ s t v w i j l h k. rw (wire_stands m d s v h, wire_stands m d t w k) l)
+
+-- a start that is not refused gives its first cursor
+pub start_gives : {C : Type 0} (from : Start → Result C Refusal) (first : C) → from started ≡ Ok first → ((r : Refusal) → from (refused r) ≡ Err r) → (s : Start) (c : C) → from s ≡ Ok c →
+    (s ≡ started) × (first ≡ c)
+start_gives from first ok stops started c e = (refl, (let q = sym ok ∙ e in cc))
+start_gives from first ok stops (refused r) c e = absurd (zero_is_not_one (let z = sym (stops r) ∙ e in cc))
 
 abbrev pub port_links_at : PortIndex → ℕ → ℕ → PortLinks
 port_links_at p f b = record { port = p; front = f; back = b }
@@ -348,13 +340,8 @@ module _ (m : MultiPortGraph) where
 
   pub port_links_at_start : (p : PortIndex) (c : PortLinks) → start_port_links m p ≡ Ok c → links_left m c ≡ port_links m p.0
   unfolding links_left start_at_port
-  port_links_at_start p c e = go (start_at_port m p.0) e
-    where
-      go : (s : Start) → port_links_from p s ≡ Ok c → links_left m c ≡ port_links m p.0
-      go started e =
-          let q : port_links_at p 0 0 ≡ c = cc in
-          ap (links_left m) (sym q) ∙ between_all link_offset (port_links m p.0)
-      go (refused r) e = absurd (zero_is_not_one (cc))
+  port_links_at_start p c e =
+      ap (links_left m) (sym (start_gives (port_links_from p) (port_links_at p 0 0) refl (λ r. refl) (start_at_port m p.0) c e).1) ∙ between_all link_offset (port_links m p.0)
 
 -- So from its start each of these walks gives its listing whole and in order, from the back in reverse order, and then the end;
 -- by turns each item comes once, the first ones from the front and the last ones from the back.

@@ -14,11 +14,11 @@ use Rattle.multiportgraph.specs.WellFormed.{Fine}
 use Rattle.multiportgraph.specs.Listed.{end_numbers, wire_numbers, wires_listed}
 use Rattle.multiportgraph.specs.ListReads.{wires_length, wire_length}
 use Rattle.port_tables.specs.Listing.{member_map, rising_map, member_filter, member_range}
-use Rattle.multiportgraph.specs.WalkRule.{Earlier, walked_rises}
+use Rattle.multiportgraph.specs.WalkRule.{Earlier, walked_places, walked_rises}
 use Rattle.multiportgraph.specs.Wires.{is_block, blocks, all_wires, wires_walked, wire_places}
 use Rattle.multiportgraph.specs.declared.multiportgraph.MultiPortGraph.{MultiPortGraph}
 use Rattle.multi_tables.specs.declared.answers.SubportLink.{SubportLink}
-use Rattle.files.specs.ViewLaws.{walked_places, walked_fits}
+use Rattle.files.specs.ViewLaws.{walked_fits}
 use Rattle.timing.specs.Longest.{Feed, feed_of, feeds_in, feeders}
 use Rattle.timing.specs.Settling.{feed_at, feeds_listed}
 use Rattle.timing.specs.SettleLaws.{feed#, feeders_member}

@@ -4,10 +4,10 @@ use Rattle.std.specs.Slice.Iter.{chunks_exact_rest, chunks_exact_size, chunks_ex
 use Rattle.std.specs.declared.slice.ChunksExact.{ChunksExact}
 use denote.Bor.{Bor}
 use Rattle.std.proofs.Common.{refl, sym, ap, subst, append_assoc, ◌∙◌}
-use Prim.Native.Nat.{◌+◌, ◌-◌, ◌*◌, ◌/◌, ◌%◌, ◌≤◌, ◌<◌}
+use Prim.Native.Nat.{◌+◌, ◌*◌, ◌/◌, ◌%◌, ◌≤◌, ◌<◌}
 use native.Mathlib.Omega.{arith}
 use Rattle.std.proofs.Math.ListN.{get_or-append, length-append}
-use Rattle.std.proofs.Math.Nat.{mul-add, mul-one, mul_comm, div-lt_iff_lt-mul}
+use Rattle.std.proofs.Math.Nat.{mul-add, mul_comm, div-lt_iff_lt-mul}
 use Rattle.std.proofs.lemmas.Nat.{le-div}
 use Rattle.std.proofs.lemmas.List.{get_or-drop, get_or-take, get_or-append-add, length-drop, length-take, drop-drop, drop_at, take-take, take_at, take_all}
 
@@ -20,13 +20,6 @@ pub record Passing (size : ℕ) (list : List ℕ) (it : ChunksExact ℕ) (P : �
 -- what a record says is what the listing says of it
 abbrev pub Reads : ℕ → List ℕ → List ℕ → ℕ → Type 0
 Reads size list one i = (j : ℕ) → j < size → get_or one j 0 ≡ get_or list (size * i + j) 0
-
--- all from a place on
-pub rest_taken : (list : List ℕ) (a : ℕ) → take (length list - a) (drop a list) ≡ drop a list
-rest_taken list a = take_all (length list - a) (drop a list) (let l = length-drop a list in omega arith)
-
-next_place : (size i : ℕ) → size * (i + 1) ≡ size * i + size
-next_place size i = mul-add size i 1 ∙ ap (λ (k : ℕ). size * i + k) (mul-one size)
 
 -- from some record on
 pub passing_from : {size : ℕ} {list : List ℕ} {it items : ChunksExact ℕ} {P : ℕ → Type 0} (at : ℕ) → it ≡ items → chunks_exact_size items ≡ size → chunks_exact_rest items ≡ drop (size * at) list → P at → Passing size list it P
@@ -43,7 +36,7 @@ module _ {size : ℕ} {list : List ℕ} {it : ChunksExact ℕ} {P : ℕ → Type
         let a = ap length s.left in
         let b = ap length k.1.0 ∙ length-append one.now (chunks_exact_rest next) in
         let o = long in
-        let m = next_place size s.at in
+        let m = mul-add size s.at 1 in
         let c = mul_comm size (s.at + 1) in
         let d : (s.at + 1) * size ≤ length list = omega arith in
         let q = le-div (s.at + 1) (length list) size some d in
@@ -60,7 +53,7 @@ module _ {size : ℕ} {list : List ℕ} {it : ChunksExact ℕ} {P : ℕ → Type
         record {
           at = s.at + 1;
           sized = k.0 ∙ s.sized;
-          left = sym (drop_at one.now (chunks_exact_rest next) size long) ∙ ap (drop size) (sym k.1.0 ∙ s.left) ∙ drop-drop size (size * s.at) list ∙ ap (λ (k : ℕ). drop k list) (sym (next_place size s.at));
+          left = sym (drop_at one.now (chunks_exact_rest next) size long) ∙ ap (drop size) (sym k.1.0 ∙ s.left) ∙ drop-drop size (size * s.at) list ∙ ap (λ (k : ℕ). drop k list) (let m = mul-add size s.at 1 in omega arith);
           holds = f s.at inside reads s.holds;
         }
 
@@ -73,7 +66,7 @@ module _ {size : ℕ} {list : List ℕ} {it : ChunksExact ℕ} {P : ℕ → Type
           let a = ap length s.left in
           let h = k.1.0 in
           let z = s.sized in
-          let m = next_place size s.at in
+          let m = mul-add size s.at 1 in
           let c = mul_comm size (s.at + 1) in
           let d : length list < (s.at + 1) * size = omega arith in
           let q = (div-lt_iff_lt-mul some).1 d in

@@ -5,13 +5,12 @@ use Rattle.std.specs.Prelude.{◌≡◌, refl, Bool, true, false, cond, not, ◌
 use Rattle.std.proofs.Common.{sym, ap, ◌∙◌, subst, inl, inr, ⊎_elim, arith, length-set, get_or-set_same, get_or-set_other}
 use Rattle.std.proofs.Math.Dec.{ltb}
 use Rattle.std.proofs.Math.ListN.{get_or-eq_default}
-use Rattle.std.proofs.lemmas.Bool.{cases_eq}
+use Rattle.std.proofs.lemmas.Bool.{and_parts, cases_eq}
 use borrow.Author.Tests.{eqb-true, eq-eqb, ltb-true, ltb-false, lt-ltb, not-true}
 use Rattle.port_tables.specs.Lists.{Member, Rising, Once}
 use Rattle.std.specs.List.{filter}
 use Rattle.multiportgraph.specs.HiddenStays.{true_not_false}
-use Rattle.port_tables.specs.Listing.{Apart, filter_member, partners}
-use Rattle.files.specs.LaidLaws.{both_true}
+use Rattle.port_tables.specs.Listing.{Apart, once_apart, filter_member, partners}
 use Rattle.files.specs.SoundLaws.{every_item, item_every}
 use Rattle.theorems.proofs.PortListing.{same_length}
 use Rattle.multiportgraph.specs.Wires.{blocks}
@@ -29,7 +28,7 @@ distinct_once : (l : List ℕ) → is_distinct l ≡ true → Once l
 unfolding is_distinct
 distinct_once [] e = tt
 distinct_once (n ∷ l) e =
-    let r = both_true (not (is_in n l)) (is_distinct l) e in
+    let r = and_parts (not (is_in n l)) (is_distinct l) e in
     ((λ i. true_not_false (member_in n l i) (not-true (is_in n l) r.0)), distinct_once l r.1)
 
 once_distinct : (l : List ℕ) → Once l → is_distinct l ≡ true
@@ -47,7 +46,7 @@ before_is [] a b e = absurd (true_not_false e refl)
 before_is (n ∷ l) a b e = go (eqb a n && is_in b l) refl e (before_is l a b)
   where
     go : (t : Bool) → (eqb a n && is_in b l) ≡ t → (t || is_before l a b) ≡ true → (is_before l a b ≡ true → Before l a b) → Before (n ∷ l) a b
-    go true h k rest = let r = both_true (eqb a n) (is_in b l) h in inl (eqb-true a n r.0, in_member b l r.1)
+    go true h k rest = let r = and_parts (eqb a n) (is_in b l) h in inl (eqb-true a n r.0, in_member b l r.1)
     go false h k rest = inr (rest k)
 
 is_before_lem : (l : List ℕ) (a b : ℕ) → Before l a b → is_before l a b ≡ true
@@ -59,14 +58,6 @@ is_before_lem (n ∷ l) a b (inr h) = go (eqb a n && is_in b l) (is_before_lem l
     go : (t : Bool) → is_before l a b ≡ true → (t || is_before l a b) ≡ true
     go true e = refl
     go false e = e
-
-pub once_apart : (l : List ℕ) → Once l → Rising Apart l
-once_apart [] o = tt
-once_apart (n ∷ l) o = ((λ y i e. o.0 (subst (λ (k : ℕ). Member k l) (sym e) i)), once_apart l o.1)
-
-pub apart_once : (l : List ℕ) → Rising Apart l → Once l
-apart_once [] o = tt
-apart_once (n ∷ l) o = ((λ i. o.0 n i refl), apart_once l o.1)
 
 -- Which of two stands before the other.
 
@@ -305,9 +296,9 @@ module _ (m : MultiPortGraph) where
   pub run_order_right : (order : List ℕ) → run_order m order ≡ true → RightOrder (λ n. Member n (blocks m)) (λ a b. Member a (feeders (feeds_in m) b)) order
   unfolding run_order
   run_order_right order e =
-      let p = both_true (list_all (λ n. is_in n (blocks m)) order) _ e in
-      let q = both_true (is_distinct order) _ p.1 in
-      let r = both_true (list_all (λ n. is_in n order) (blocks m)) _ q.1 in
+      let p = and_parts (list_all (λ n. is_in n (blocks m)) order) _ e in
+      let q = and_parts (is_distinct order) _ p.1 in
+      let r = and_parts (list_all (λ n. is_in n order) (blocks m)) _ q.1 in
       record {
         only = λ n i. in_member n (blocks m) (every_item (λ k. is_in k (blocks m)) order p.0 n i);
         all = λ n i. in_member n order (every_item (λ k. is_in k order) (blocks m) r.0 n i);

@@ -11,7 +11,7 @@ use native.Mathlib.Omega.{arith}
 use Rattle.std.proofs.Math.Dec.{leb}
 use Rattle.std.proofs.Math.ListN.{length, get_or, length-append, length-set}
 use Rattle.std.proofs.Math.Seq.{get_or-set_same, get_or-set_other, get_or_at}
-use Rattle.std.proofs.lemmas.Bool.{cases_eq}
+use Rattle.std.proofs.lemmas.Bool.{cases_eq, false_from_ne_true}
 use borrow.Author.Tests.{eqb-true, eq-eqb, ne_eqb, lt-ltb, le-ltb, leb-true, leb-false}
 use Rattle.port_tables.specs.Limits.{node_slots}
 use Rattle.port_tables.specs.Lists.{Member, Rising}
@@ -183,11 +183,7 @@ in_order_comes feeds seen (n ∷ l) o h p i =
     subst (λ (k : ℕ). comes feeds k p ≡ false) z (in_order_comes feeds (n ∷ seen) l o.1 next p (⊎_elim (λ j. inl (inr j)) (λ j. ⊎_elim (λ e. inl (inl e)) inr j) i))
   where
     more : (q : ℕ) → comes feeds (length seen) q ≡ false → comes feeds (suc (length seen)) q ≡ false
-    more q e = go (comes feeds (suc (length seen)) q) refl
-      where
-        go : (b : Bool) → comes feeds (suc (length seen)) q ≡ b → b ≡ false
-        go true k = absurd (true_not_false (comes_less feeds (length seen) q k) e)
-        go false k = refl
+    more q e = false_from_ne_true _ (λ k. true_not_false (comes_less feeds (length seen) q k) e)
 
     next : (q : ℕ) → Member q (n ∷ seen) → comes feeds (suc (length seen)) q ≡ false
     next q (inl e) = subst (λ (k : ℕ). comes feeds (suc (length seen)) k ≡ false) (sym e) (none_any (comes feeds (length seen)) (feeders feeds n) (λ r j. h r (o.0 r j)))
@@ -547,11 +543,7 @@ module _ (feeds : List Feed) (time : ℕ → ℕ) (below : (p n : ℕ) → Membe
       subst (λ (j : ℕ). comes feeds j n ≡ false) e (longer (node_slots - length t.order) (length t.order + 0) h)
     where
       longer : (d k : ℕ) → comes feeds k n ≡ false → comes feeds (d + k) n ≡ false
-      longer d k e = go (comes feeds (d + k) n) refl
-        where
-          go : (b : Bool) → comes feeds (d + k) n ≡ b → b ≡ false
-          go true q = absurd (true_not_false (comes_fewer feeds d k n q) e)
-          go false q = refl
+      longer d k e = false_from_ne_true _ (λ q. true_not_false (comes_fewer feeds d k n q) e)
 
   pub unsettled_comes : (k n : ℕ) → n < node_slots → (Member n t.order → ⊥) → comes feeds k n ≡ true
   unfolding comes into

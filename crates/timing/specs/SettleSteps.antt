@@ -1,4 +1,5 @@
 -- What the functions that settle blocks cite: loops over a listing of wires, turn by turn, and settled blocks in a table.
+use Rattle.std.proofs.lemmas.List.{length-map}
 use Rattle.std.specs.Prelude.{◌≡◌, Bool, true, false, ◌⊎◌, eqb, leb, ltb, length, take, drop}
 use Rattle.std.proofs.Math.Path.{refl, sym, ap}
 use Rattle.std.proofs.Common.{◌∙◌, subst, inl, inr, drop_of_length-le, drop-cons, take-suc-set, get_or-set_other}
@@ -12,7 +13,7 @@ use Rattle.std.proofs.lemmas.Bool.{cases_eq}
 use borrow.Author.Tests.{eq-eqb, ne_eqb, lt-ltb, le-ltb}
 use Rattle.port_tables.specs.Limits.{node_slots}
 use Rattle.port_tables.specs.Lists.{range}
-use Rattle.port_tables.specs.Listing.{length_map, length_range}
+use Rattle.port_tables.specs.Listing.{length_range}
 use Rattle.timing.specs.Longest.{Feed, time_in}
 use Rattle.timing.specs.Settling.{feed_at, feeds_listed, Tables, zeros, waits_of, firsts_of, unsettled, with_order, pushed, push_ready, raised, wire_done, run_done, block_done, start_tables, settle, settled, Bounded}
 use Rattle.timing.specs.StartLaws.{zeros_read}
@@ -28,12 +29,12 @@ range_at (suc n) s (suc i) h = let e = range_at n (suc s) i (omega arith) in ome
 -- what is read at each number from 0 on, from one of them on
 pub listed_next : {A : Type 0} (f : ℕ → A) (n i : ℕ) → i < n → drop i (map f (range 0 n)) ≡ f i ∷ drop (suc i) (map f (range 0 n))
 listed_next f n i h =
-    let l = length_map f (range 0 n) ∙ length_range 0 n in
+    let l = length-map (range 0 n) f ∙ length_range 0 n in
     drop-cons (map f (range 0 n)) i (f 0) (omega arith)
     ∙ ap (λ x. x ∷ drop (suc i) (map f (range 0 n))) (get_or-map f (range 0 n) i 0 ∙ ap f (let e = range_at n 0 i h in omega arith))
 
 pub listed_end : {A : Type 0} (f : ℕ → A) (n i : ℕ) → n ≤ i → drop i (map f (range 0 n)) ≡ []
-listed_end f n i h = let l = length_map f (range 0 n) ∙ length_range 0 n in drop_of_length-le (map f (range 0 n)) {i = i} (omega arith)
+listed_end f n i h = let l = length-map (range 0 n) f ∙ length_range 0 n in drop_of_length-le (map f (range 0 n)) {i = i} (omega arith)
 
 module _ (ends : List ℕ) where
   pub feeds_next : (i : ℕ) → i < length ends / 8 → drop i (feeds_listed ends) ≡ feed_at ends i ∷ drop (suc i) (feeds_listed ends)
@@ -131,24 +132,26 @@ module _ (queue : List ℕ) (tail block : ℕ) (long : length queue ≡ node_slo
       rw (le-ltb (length (take tail queue)) node_slots (omega arith))
 
 -- slots one after the other
-module _ (t : Tables) (n : ℕ) where
-  pub ready_push : {waits : List ℕ} {x : ℕ} {t' : Tables} → waits ≡ t.waits → x ≡ get_or waits n 0 → x ≡ 0 → t' ≡ with_order t (pushed t.order n) → t' ≡ with_order t (cond (eqb (get_or t.waits n 0) 0) (pushed t.order n) t.order)
-  ready_push w q z e = rw (eq-eqb (get_or t.waits n 0) 0 (ap (λ (l : List ℕ). get_or l n 0) (sym w) ∙ (sym q ∙ z))) e
-
-  pub ready_stays : {waits : List ℕ} {x : ℕ} {t' : Tables} → waits ≡ t.waits → x ≡ get_or waits n 0 → (x ≡ 0 → ⊥) → t' ≡ t → t' ≡ with_order t (cond (eqb (get_or t.waits n 0) 0) (pushed t.order n) t.order)
-  ready_stays w q d e = rw (ne_eqb (get_or t.waits n 0) 0 (λ z. d (q ∙ (ap (λ (l : List ℕ). get_or l n 0) w ∙ z)))) e
-
-  pub ready_turn : (slots : ℕ) {t' : Tables} → n < slots → t' ≡ with_order t (cond (eqb (get_or t.waits n 0) 0) (pushed t.order n) t.order) →
+module _ (t : Tables) (n slots : ℕ) where
+  ready_turn : {t' : Tables} → n < slots → t' ≡ with_order t (cond (eqb (get_or t.waits n 0) 0) (pushed t.order n) t.order) →
       with_order t' (push_ready t'.waits (range (n + 1) (slots - (n + 1))) t'.order) ≡ with_order t (push_ready t.waits (range n (slots - n)) t.order)
   unfolding push_ready range
-  ready_turn slots h e =
+  ready_turn h e =
       let k : slots - n ≡ suc (slots - (n + 1)) = omega arith in
       let s : n + 1 ≡ suc n = omega arith in
       ap (λ (r : Tables). with_order r (push_ready r.waits (range (n + 1) (slots - (n + 1))) r.order)) e ∙ rw (k, s) refl
 
-  pub ready_end : (slots : ℕ) → slots ≤ n → t ≡ with_order t (push_ready t.waits (range n (slots - n)) t.order)
+  module _ (inside : n < slots) {x : ℕ} {t' : Tables} (is_x : x ≡ get_or t.waits n 0) where
+    pub ready_push : x ≡ 0 → t' ≡ with_order t (pushed t.order n) →
+        with_order t' (push_ready t'.waits (range (n + 1) (slots - (n + 1))) t'.order) ≡ with_order t (push_ready t.waits (range n (slots - n)) t.order)
+    ready_push z e = ready_turn inside (rw (eq-eqb (get_or t.waits n 0) 0 (sym is_x ∙ z)) e)
+
+    pub ready_stays : (x ≡ 0 → ⊥) → t' ≡ t → with_order t' (push_ready t'.waits (range (n + 1) (slots - (n + 1))) t'.order) ≡ with_order t (push_ready t.waits (range n (slots - n)) t.order)
+    ready_stays d e = ready_turn inside (rw (ne_eqb (get_or t.waits n 0) 0 (λ z. d (is_x ∙ z))) e)
+
+  pub ready_end : slots ≤ n → with_order t (push_ready t.waits (range n (slots - n)) t.order) ≡ t
   unfolding push_ready range
-  ready_end slots h = let e : slots - n ≡ 0 = omega arith in rw e refl
+  ready_end h = let e : slots - n ≡ 0 = omega arith in rw e refl
 
 -- The wires of a block.
 

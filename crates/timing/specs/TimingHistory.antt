@@ -1,7 +1,8 @@
 -- Proofs of the theorems about times over every list of calls: walks along the book's wires are walks along the graph's, and its blocks are the
 -- graph's. The statements stand in TimingTheorems.
-use Rattle.std.specs.Prelude.{◌≡◌, refl, Bool, true, false, ◌↔◌, ℕ, ◌+◌, ◌-◌, ◌≤◌, length, set, Ok, Err}
+use Rattle.std.specs.Prelude.{◌≡◌, true, false, ◌↔◌, ℕ, ◌+◌, ◌-◌, ◌≤◌, length, set, Ok, Err}
 use Rattle.std.proofs.Common.{sym, ap, ◌∙◌, subst, arith}
+use Rattle.std.proofs.lemmas.Bool.{false_from_ne_true}
 use mathlib.Core.List.{List, [], ◌∷◌}
 use Rattle.port_tables.specs.Limits.{node_slots}
 use Rattle.port_tables.specs.Lists.{Member, range}
@@ -163,8 +164,4 @@ some_order_exactly release calls times l =
     )
   where
     no_cycle : (n : ℕ) → Member n (blocks (run release calls).graph) → (comes (feeds_in (run release calls).graph) node_slots n ≡ true → ⊥) → comes (feeds_in (run release calls).graph) node_slots n ≡ false
-    no_cycle n i h = go (comes (feeds_in (run release calls).graph) node_slots n) refl
-      where
-        go : (b : Bool) → comes (feeds_in (run release calls).graph) node_slots n ≡ b → b ≡ false
-        go true e = absurd (h e)
-        go false e = refl
+    no_cycle n i h = false_from_ne_true _ h

@@ -15,7 +15,7 @@ use Rattle.std.specs.List.{filter}
 use Rattle.portgraph.specs.Model.{Model}
 use Rattle.multiportgraph.specs.HiddenStays.{true_not_false}
 use Rattle.multiportgraph.specs.WellFormed.{Fine}
-use Rattle.port_tables.specs.Listing.{Apart, member_map, map_member, member_filter, filter_member, rising_filter}
+use Rattle.port_tables.specs.Listing.{Apart, rising_once, member_map, map_member, member_filter, filter_member, rising_filter}
 use Rattle.port_tables.specs.Places.{Wire}
 use Rattle.multiportgraph.specs.Walks.{Start, started, refused, start_at_node}
 use Rattle.multiportgraph.specs.Wires.{blocks, wires_walked}
@@ -32,7 +32,7 @@ use Rattle.timing.specs.Settling.{settled, path_back, path_among}
 use Rattle.timing.specs.SettleLaws.{feed#, in_member, member_in, feeders_member, member_feeders, unsettled_comes, settled_sum, path_found}
 use Rattle.timing.specs.StartLaws.{all_settled}
 use Rattle.timing.specs.FeedLaws.{feeds_rise, feeders_below, feeders_between, block_below}
-use Rattle.timing.specs.RunOrderLaws.{apart_once, ordered_before, before_filter, right_run_order}
+use Rattle.timing.specs.RunOrderLaws.{ordered_before, before_filter, right_run_order}
 use Rattle.timing.specs.AnswerSteps.{started_below}
 use Rattle.timing.specs.declared.answers.LongestError.TheVariants.{Refused, BadTimes, Cycle}
 
@@ -198,7 +198,7 @@ module _ {m : MultiPortGraph} {M : Model} (f : Fine m M) where
             (record {
               only = λ n i. in_member n (blocks m) (member_filter is_one n t.order i).1;
               all = λ n i. filter_member is_one n t.order (there n i) (member_in n (blocks m) i);
-              once = apart_once (filter is_one t.order) (rising_filter Apart is_one t.order s.once);
+              once = rising_once Apart (λ x e. e refl) (filter is_one t.order) (rising_filter Apart is_one t.order s.once);
               forward = λ a b g.
                   let e = feeders_between f a b g in
                   before_filter is_one t.order a b (ordered_before (feeds_in m) t.order s.fed a b g (there b e.1)) (member_in a (blocks m) e.0) (member_in b (blocks m) e.1);

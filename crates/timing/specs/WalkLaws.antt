@@ -8,7 +8,7 @@ use mathlib.Core.List.{List, [], ◌∷◌, ◌++◌}
 use Prim.Native.Nat.{ℕ, zero, suc, ◌+◌, ◌-◌, ◌≤◌, ◌<◌, max}
 use native.Mathlib.Omega.{arith}
 use Rattle.std.proofs.Math.ListN.{length, length-append}
-use Rattle.std.proofs.lemmas.Bool.{eqb-false, cases_lt}
+use Rattle.std.proofs.lemmas.Bool.{eqb-false, cases_lt, false_from_ne_true}
 use Rattle.port_tables.specs.Lists.{Member, Rising}
 use Rattle.multiportgraph.specs.HiddenStays.{true_not_false}
 use Rattle.port_tables.specs.Listing.{Apart, apart_below}
@@ -42,11 +42,7 @@ none_any t [] h = refl
 none_any t (p ∷ l) h = rw (h p (inl refl)) (none_any t l (λ q i. h q (inr i)))
 
 pub any_none : (t : ℕ → Bool) (l : List ℕ) → any_of t l ≡ false → (p : ℕ) → Member p l → t p ≡ false
-any_none t l e p i = go (t p) refl
-  where
-    go : (b : Bool) → t p ≡ b → b ≡ false
-    go true h = absurd (true_not_false (some_any t l p i h) e)
-    go false h = refl
+any_none t l e p i = false_from_ne_true (t p) (λ h. true_not_false (some_any t l p i h) e)
 
 pub largest_above : (v : ℕ → ℕ) (l : List ℕ) (p : ℕ) → Member p l → v p ≤ largest_of v l
 unfolding largest_of

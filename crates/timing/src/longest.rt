@@ -16,6 +16,7 @@ use port_tables::numbers::wide;
 // Blocks are settled along the wires of a graph; answers the largest sum that ends at one. Not inlined: the list of the wires then does not lie on the stack while a caller
 // makes the graph.
 #[inline(never)]
+#[tactic(auto, using(crate::specs::AnswerSteps::refused_answer, crate::specs::AnswerSteps::times_wrong, crate::specs::AnswerSteps::sum_answer, crate::specs::AnswerSteps::wires_listed_few, crate::specs::AnswerSteps::settled_walked))]
 fn settle_graph(
     settling: &mut Settling,
     graph: &MultiPortGraph,
@@ -46,6 +47,7 @@ pub fn longest(graph: &MultiPortGraph, block: NodeIndex, times: &[u16]) -> Resul
 
 // Lists a path that has the largest sum, from its first block to the one named, at the start of a list that the caller lends: 1,024 numbers
 // are enough. A list that is too short for the path stays as it is.
+#[tactic(auto, unfolding(crate::specs::Path::path_listed, crate::specs::Path::path_after, crate::specs::Path::path_of, crate::specs::Settling::path_among))]
 pub fn path(
     graph: &MultiPortGraph,
     block: NodeIndex,

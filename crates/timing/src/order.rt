@@ -15,6 +15,7 @@ use port_tables::numbers::wide;
 use port_tables::tables::store;
 
 // Enters each block of a listing, with four numbers each.
+#[tactic(auto, using(crate::specs::Passing::passing_from))]
 fn mark_blocks(listed: &[u32], places: &mut [u32])
     ensures { places.new ≡ marked (nodes_of listed.now) places.old }
 {
@@ -40,6 +41,7 @@ fn name_all(order: &[u32], places: &mut [u32]) -> bool
 }
 
 // Whether every wire goes from an earlier to a later place.
+#[tactic(auto, using(crate::specs::AnswerSteps::forward_tested))]
 fn all_forward<'a>(ends: &'a [u32], places: &'a [u32]) -> bool
     ensures { result ≡ all_forward places.now (feeds_listed ends.now) }
 {
@@ -48,7 +50,7 @@ fn all_forward<'a>(ends: &'a [u32], places: &'a [u32]) -> bool
 }
 
 // Whether the order names each block once and nothing else, and every wire goes from an earlier to a later one.
-#[tactic(auto, using(multiportgraph::specs::ListReads::few_blocks, files::specs::SaveSteps::blocks_first, files::specs::SaveSteps::blocks_long))]
+#[tactic(auto, unfolding(crate::specs::Settling::zeros), using(multiportgraph::specs::ListReads::few_blocks, files::specs::SaveSteps::blocks_first, files::specs::SaveSteps::blocks_long, crate::specs::AnswerSteps::count_wrong, crate::specs::AnswerSteps::not_named, crate::specs::AnswerSteps::named_answer))]
 pub fn run_order(graph: &MultiPortGraph, order: &[u32]) -> bool
     requires { MultiWf graph.now }
     ensures { result ≡ run_order graph.now order.now }

@@ -28,7 +28,7 @@ fn path_back<'a>(origin: &'a [u32], block: u32, back: &mut [u32]) -> usize
 }
 
 // Copies numbers to a list's start; one that is too short stays as it is.
-#[tactic(auto, unfolding(multiportgraph::specs::Listed::list_after), using(crate::specs::AnswerSteps::copied, crate::specs::AnswerSteps::not_copied))]
+#[tactic(auto, unfolding(multiportgraph::specs::Listed::list_after), using(files::specs::MergeAnswers::buffer_filled, multiportgraph::specs::ListSteps::short_kept))]
 fn copy_in<'a>(numbers: &'a [u32], list: &mut [u32])
     ensures { list.new ≡ list_after numbers.now list.old }
 {

@@ -91,6 +91,7 @@ impl Settling {
     }
 
     // The slots into which no wire goes are settled at once. Stays a range: the queue grows while the table is read, and both are of the one value.
+    #[tactic(auto, using(crate::specs::SettleSteps::ready_push, crate::specs::SettleSteps::ready_stays, crate::specs::SettleSteps::ready_end))]
     fn push_ready(&mut self)
         ensures { self.new ≡ with_order self.old (push_ready self.old.waits (range 0 node_slots) self.old.order) }
     {
@@ -128,6 +129,7 @@ impl Settling {
     }
 
     // The wires of a block that stand in a row from a place on are done.
+    #[tactic(auto, using(crate::specs::Passing::passing_from, crate::specs::SettleSteps::run_end))]
     fn run_done<'a>(&mut self, ends: &'a [u32], from: u32, block: u32, sum: u32)
         requires { block < node_slots }
         ensures { self.new ≡ run_done block sum (drop from (feeds_listed ends.now)) self.old }
@@ -158,6 +160,7 @@ impl Settling {
     }
 
     // Settled blocks are done one after the other, and settle others behind them.
+    #[tactic(auto, unfolding(crate::specs::Settling::unsettled, crate::specs::Settling::zeros))]
     pub(crate) fn settle<'a>(&mut self, ends: &'a [u32], times: &'a [u16])
         requires { (length ends.now ≤ 8 * port_slots) × (self.old ≡ unsettled) }
         ensures tables { self.new ≡ settled (feeds_listed ends.now) times.now }

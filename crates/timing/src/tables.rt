@@ -7,7 +7,7 @@ use multiportgraph::multiportgraph::MultiPortGraph;
 use port_tables::index::MOST_WIRES;
 
 // The wires of a graph, in a list that is lent to be written: the part that is.
-#[tactic(auto, using(files::specs::SaveSteps::visible_links_few, crate::specs::AnswerSteps::wires_there))]
+#[tactic(auto, using(files::specs::SaveSteps::visible_links_few, files::specs::SaveSteps::wires_taken))]
 pub(crate) fn wires_in<'a>(
     graph: &'a MultiPortGraph,
     ends: &'a mut [u32; 8 * MOST_WIRES],

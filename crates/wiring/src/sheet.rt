@@ -28,6 +28,7 @@ fn put_entries(sheet: &mut [SheetEntry], text: &[u8], from: usize) {
 }
 
 // The pairs of a line are linked, one after the other. Stays in both consoles, as the entries do: the call and the answers are each one's own.
+#[tactic(auto, using(sheets::specs::SheetLaws::sheet_kept))]
 pub(crate) fn link_pairs(
     rt: &impl Print,
     graph: MultiPortGraph,

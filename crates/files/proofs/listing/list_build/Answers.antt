@@ -2,9 +2,9 @@
 use native.Mathlib.Omega.{arith}
 use mathlib.Core.Path.{sym, ap, ◌∙◌}
 use Rattle.files.specs.Loading.{load_answer}
-use Rattle.std.specs.Prelude.{is_ok}
 use Rattle.files.specs.BuildSteps.{load_unlaid}
-use Rattle.files.specs.ListingSteps.{list_refused, list_done, loaded_few}
+use Rattle.files.specs.ListingSteps.{list_refused, list_done}
+use Rattle.files.specs.LoadAnswers.{loaded_few}
 use Rattle.files.proofs.listing.list_build.Goals as goal
 
 pub returns-in_err-laid : goal.returns-in_err-laid
@@ -16,7 +16,7 @@ returns-in_err-build_answer c = list_refused c.args.release c.args.file.now c.ar
 pub list_laid-requires : goal.list_laid-requires
 list_laid-requires c =
     let file = c.in_ok-laid.laid in
-    let h = loaded_few c.args.release file.bytes.now (ap is_ok (sym c.in_ok-build_answer.ensures)) in
+    let h = loaded_few c.args.release file.bytes.now (sym c.in_ok-build_answer.ensures) in
     let m = file.laid.blocks_are.many in
     omega (arith, h.0)
 

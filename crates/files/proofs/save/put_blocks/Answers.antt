@@ -4,8 +4,8 @@ use mathlib.Core.Path.{◌≡◌, ap, ◌∙◌}
 use mathlib.Core.List.{List, map}
 use Prim.Native.Nat.{ℕ}
 use lib.ListN.{length, take}
-use lib.Seq.{sets, length-take-le}
-use Rattle.files.specs.Layout.{Record, units_for, units_of}
+use lib.Seq.{length-take-le}
+use Rattle.files.specs.Layout.{units_for}
 use Rattle.files.specs.Forms.{record_of, blocks_in}
 use Rattle.files.specs.SaveSteps.{block_records}
 use Rattle.files.proofs.save.put_blocks.Goals as goal
@@ -20,4 +20,4 @@ returns c =
     let e = ap units_for (many (goal.at.returns c).After-slice_known-3-1) in
     let n = blocks_in c.args.listed.now in
     let r = ap (λ (l : List ℕ). map record_of (take n l)) c.block_numbers.ensures ∙ block_records c.args.listed.now c.args.numbers.now c.requires.0 c.requires.1 in
-    (omega (arith, c.put_units.ensures.0, e), c.put_units.ensures.1 ∙ ap (λ (l : List Record). sets c.args.buffer.now 0 (units_of 1 l)) r)
+    (omega (arith, c.put_units.ensures.0, e), rw r at c.put_units.ensures.1)

@@ -1,7 +1,5 @@
 -- `files::units::put_units` meets its contract. Invariant: laying the units that are left amounts to laying all.
-use native.Mathlib.Omega.{arith}
-use mathlib.Core.Path.{◌≡◌, ap, ◌∙◌}
-use Prim.Native.Nat.{ℕ, ◌+◌, ◌*◌}
+use mathlib.Core.Path.{◌≡◌, ◌∙◌}
 use lib.ListN.{length}
 use Rattle.std.specs.Prelude.{min}
 use Rattle.std.specs.Iterator.Adapters.{enumerate_source}
@@ -15,10 +13,10 @@ use Rattle.files.proofs.units.put_units.Goals.{In-Some}
 part_long : (c : In-Some) → length c.in-Some.part.now ≡ min unit_records (length (chunks_rest (enumerate_source c.loop-i.i-iterator)))
 part_long c =
     let k = c.in-Some.ensures.steps in
-    k.0.1.1 ∙ ap (λ (n : ℕ). min n (length (chunks_rest (enumerate_source c.loop-i.i-iterator)))) c.loop-i.invariant.0
+    rw c.loop-i.invariant.0 at k.0.1.1
 
 pub loop-i-preserved : goal.loop-i-preserved
 loop-i-preserved c =
     let k = c.in-Some.ensures.steps in
     let i = c.loop-i.invariant in
-    (k.0.0 ∙ i.0, unit_turn c.args.kind i.1 _ _ k.0.1.2 k.0.1.0 (part_long (goal.at.loop-i-preserved c).In-Some) (ap (λ (n : ℕ). c.args.at + 512 * n) k.1) (omega (arith, k.2)) c.put_unit.ensures)
+    (k.0.0 ∙ i.0, unit_turn c.args.kind i.1 _ _ k.0.1.2 k.0.1.0 (part_long (goal.at.loop-i-preserved c).In-Some) k.1 k.2 c.put_unit.ensures)

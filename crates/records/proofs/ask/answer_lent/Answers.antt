@@ -1,12 +1,10 @@
 -- `records::ask::answer_lent` meets its contract: each arm is the call that is asked. Assumes nothing.
-use mathlib.Core.Path.{refl, ap, ◌∙◌}
+use mathlib.Core.Path.{refl, ap}
 use native.Mathlib.Omega.{arith}
 use Rattle.multiportgraph.specs.Calls.{visible_nodes, visible_ports, visible_links}
-use Rattle.records.specs.Run.{five}
 use Rattle.records.specs.Forms.{meant}
 use Rattle.records.specs.AnswerSteps.{counts_fit}
 use Rattle.records.specs.AskSteps.{answered, counts_answered, set_answered, set_fits, cut_answered, cut_sub_answered}
-use Rattle.multiportgraph.specs.Answers.{add_numbers, remove_numbers, link_numbers}
 use Rattle.records.proofs.ask.answer_lent.Goals as goal
 
 pub set_words-requires : goal.set_words-requires
@@ -14,12 +12,12 @@ set_words-requires c = set_fits _ _ _ _ _ c.set_quiet_lent.ensures.1 (omega arit
 
 pub returns-in-Add : goal.returns-in-Add
 returns-in-Add c =
-    answered c.requires (ap meant c.in-Add.is) (c.add_words.ensures ∙ ap (λ x. five (add_numbers x)) c.add_lent.ensures.1)
+    answered c.requires (ap meant c.in-Add.is) (rw c.add_lent.ensures.1 at c.add_words.ensures)
     c.add_lent.ensures.0
 
 pub returns-in-Remove : goal.returns-in-Remove
 returns-in-Remove c =
-    answered c.requires (ap meant c.in-Remove.is) (c.remove_words.ensures ∙ ap (λ x. five (remove_numbers x)) c.remove_lent.ensures.1)
+    answered c.requires (ap meant c.in-Remove.is) (rw c.remove_lent.ensures.1 at c.remove_words.ensures)
     c.remove_lent.ensures.0
 
 pub returns-in-Resize : goal.returns-in-Resize
@@ -28,7 +26,7 @@ returns-in-Resize c =
 
 pub returns-in-Link : goal.returns-in-Link
 returns-in-Link c =
-    answered c.requires (ap meant c.in-Link.is) (c.link_words.ensures ∙ ap (λ x. five (link_numbers x)) c.link_lent.ensures.1)
+    answered c.requires (ap meant c.in-Link.is) (rw c.link_lent.ensures.1 at c.link_words.ensures)
     c.link_lent.ensures.0
 
 pub returns-in-Unlink : goal.returns-in-Unlink
@@ -37,7 +35,7 @@ returns-in-Unlink c =
 
 pub returns-in-LinkSubports : goal.returns-in-LinkSubports
 returns-in-LinkSubports c =
-    answered c.requires (ap meant c.in-LinkSubports.is) (c.link_words-in-LinkSubports.ensures ∙ ap (λ x. five (link_numbers x)) c.link_sub_lent.ensures.1)
+    answered c.requires (ap meant c.in-LinkSubports.is) (rw c.link_sub_lent.ensures.1 at c.link_words-in-LinkSubports.ensures)
     c.link_sub_lent.ensures.0
 
 pub returns-in-UnlinkSubport : goal.returns-in-UnlinkSubport

@@ -1,7 +1,5 @@
 -- `records::run::run_list` meets its contract. The invariant: what is laid, with the rest of the run on the present graph, is the whole;
 -- the graph is one of the calls. Assumes nothing.
-use native.Mathlib.Omega.{arith}
-use Prim.Native.Nat.{ℕ, ◌*◌}
 use mathlib.Core.Path.{ap, ◌∙◌}
 use Rattle.std.specs.Iterator.Adapters.{enumerate_source, enumerate_count}
 use Rattle.std.specs.Slice.Iter.{chunks_exact_rest, chunks_exact_size}
@@ -20,4 +18,4 @@ pub loop-k-preserved : goal.loop-k-preserved
 loop-k-preserved c =
     let k = c.in-Some.ensures.steps in
     let i = c.loop-k.invariant in
-    (k.0.0 ∙ i.0, run_turns i.1 _ _ k.0.1.0 (k.0.1.1 ∙ i.0) (ap (λ (n : ℕ). 20 * n) k.1) (omega (arith, k.2)) c.request_in.ensures c.ask_lent.ensures c.put_answer.ensures)
+    (k.0.0 ∙ i.0, run_turns i.1 _ _ k.0.1.0 (k.0.1.1 ∙ i.0) k.1 k.2 c.request_in.ensures c.ask_lent.ensures c.put_answer.ensures)

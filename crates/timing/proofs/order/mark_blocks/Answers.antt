@@ -1,13 +1,9 @@
 -- `timing::order::mark_blocks` meets its contract. Invariant: the blocks that are left amount to all.
-use mathlib.Core.Path.{refl, ◌∙◌}
+use mathlib.Core.Path.{◌∙◌}
 use native.Mathlib.Omega.{arith}
 use Rattle.timing.specs.AnswerSteps.{mark_turn, mark_end}
-use Rattle.timing.specs.Passing.{passing_from, passing_on, passing_ends}
+use Rattle.timing.specs.Passing.{passing_on, passing_ends}
 use Rattle.timing.proofs.order.mark_blocks.Goals as goal
-
-pub loop-block-init : goal.loop-block-init
-loop-block-init c =
-    passing_from 0 c.into_iter-block-iterator.ensures.into_iter_gives c.chunks_exact-block-items.ensures.size c.chunks_exact-block-items.ensures.rest refl
 
 pub loop-block-preserved : goal.loop-block-preserved
 loop-block-preserved c =

@@ -7,24 +7,18 @@ use Rattle.port_tables.specs.declared.release.Release.TheVariants.{One}
 use Rattle.files.specs.Loading.{load_answer}
 use Rattle.files.specs.LoadForms.{Laid}
 use Rattle.files.specs.Merging.{merged_file}
-use Rattle.files.specs.MergeForms.{BothLaid}
-use Rattle.files.specs.MergeSteps.{result_length, result_laid, result_taken, result_fits_longest}
+use Rattle.files.specs.MergeSteps.{both_laid, result_laid, result_fits_longest}
+use Rattle.multiportgraph.specs.BlockSteps.{list_taken}
 use Rattle.files.specs.declared.merge.Both.{Both}
 use Rattle.files.proofs.merge.Both.answer.Goals as goal
 use Rattle.files.proofs.merge.Both.answer.Goals.{After-size-size}
 
-abbrev both : (s : Both) → BothLaid s.first.bytes.now s.second.bytes.now s.first.shape.blocks s.first.shape.wires s.second.shape.blocks s.second.shape.wires
-both s = record { one = s.first.laid; two = s.second.laid }
-
 short : (s : Both) → length (merged_file s.first.bytes.now s.second.bytes.now) ≤ 41984
-short s = let h = result_fits_longest s.few in let e = result_length (both s) in omega arith
+short s = result_fits_longest (both_laid s.first s.second) s.few
 
 -- what is built are the bytes of the result
 taken : (c : After-size-size) → take c.size-size.result c.put.new.buffer ≡ merged_file c.args.self.first.bytes.now c.args.self.second.bytes.now
-taken c =
-    let h = short c.args.self in
-    let n = length-replicate {A = ℕ} 41984 0 in
-    result_taken (merged_file c.args.self.first.bytes.now c.args.self.second.bytes.now) (replicate {A = ℕ} 41984 0) _ c.size-size.ensures (omega (arith, c.size-size.ensures)) c.put.ensures
+taken c = let h = short c.args.self in let n = length-replicate {A = ℕ} 41984 0 in (list_taken (replicate {A = ℕ} 41984 0) (omega arith) c.put.ensures c.size-size.ensures).1
 
 pub put-requires : goal.put-requires
 put-requires c = short c.args.self
@@ -38,7 +32,7 @@ slice_bounds-new-end c = sym (ap length (taken (goal.at.slice_bounds-new-end c).
 pub new-file-requires : goal.new-file-requires
 new-file-requires c =
     let s = c.args.self in
-    let l = result_laid (both s) s.few s.first.small s.second.small in
+    let l = result_laid (both_laid s.first s.second) s.few s.first.small s.second.small in
     subst (λ b. Laid b c.shape.result.blocks c.shape.result.wires) (sym (taken (goal.at.new-file-requires c).After-size-size))
     (subst (λ (n : ℕ). Laid (merged_file s.first.bytes.now s.second.bytes.now) n c.shape.result.wires) (sym c.shape.ensures.0)
     (subst (λ (n : ℕ). Laid (merged_file s.first.bytes.now s.second.bytes.now) (s.first.shape.blocks + s.second.shape.blocks) n) (sym c.shape.ensures.1) l))

@@ -4,8 +4,7 @@ use mathlib.Core.Path.{ap, ◌∙◌}
 use mathlib.Core.List.{List, map}
 use Prim.Native.Nat.{ℕ}
 use lib.ListN.{length}
-use lib.Seq.{sets}
-use Rattle.files.specs.Layout.{Record, units_for, units_of}
+use Rattle.files.specs.Layout.{units_for}
 use Rattle.files.specs.Forms.{record_of}
 use Rattle.files.specs.MergeForms.{block_read}
 use Rattle.files.specs.MergeSteps.{both_taken, both_long, both_block_records}
@@ -19,4 +18,4 @@ returns c =
     let t = both_taken f g s.first.shape.blocks s.second.shape.blocks _ c.args.numbers.now c.shape-count.ensures.0 c.read_blocks.ensures c.read_blocks-2.ensures in
     let e = ap (λ (l : List ℕ). units_for (length l)) t ∙ ap units_for (both_long f g s.first.shape.blocks s.second.shape.blocks) in
     let r = ap (map record_of) t ∙ both_block_records s.first.bytes.now s.second.bytes.now s.first.small s.second.small s.first.shape.blocks s.second.shape.blocks s.first.laid.blocks_are s.second.laid.blocks_are in
-    (omega (arith, c.put_units.ensures.0, e), c.put_units.ensures.1 ∙ ap (λ (l : List Record). sets c.args.buffer.now 0 (units_of 1 l)) r)
+    (omega (arith, c.put_units.ensures.0, e), rw r at c.put_units.ensures.1)

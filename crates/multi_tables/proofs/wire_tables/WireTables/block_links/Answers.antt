@@ -3,4 +3,4 @@ use Rattle.multi_tables.specs.ScanSteps.{block_scanned}
 use Rattle.multi_tables.proofs.wire_tables.WireTables.block_links.Goals as goal
 
 pub returns : goal.returns
-returns c = (block_scanned c.args.self.marks.now c.args.self.links.now c.args.self.owners.now c.args.self.flags.now c.args.held.port c.args.held.offset c.args.slot.entry _ c.args.hidden _ _ _ c.meta.ensures c.in_ok-meta.was c.if-hidden.false c.ports_from.ensures c.ports_to.ensures c.next_beyond.ensures.0, c.next_beyond.ensures.1)
+returns c = (block_scanned _ _ _ _ _ _ _ c.meta.ensures c.in_ok-meta.was c.if-hidden.false c.ports_from.ensures c.ports_to.ensures c.next_beyond.ensures.0, c.next_beyond.ensures.1)

@@ -1,8 +1,6 @@
 -- `multiportgraph::MultiPortGraph::cut_answer` meets its contract: a split port, and one that is not.
 use mathlib.Core.Path.{refl, sym, ap, ◌∙◌}
-use Rattle.multi_tables.specs.TableReads.{plain_in}
 use Rattle.multiportgraph.specs.LowerSteps.{port_cut_below}
-use Rattle.multiportgraph.specs.OwnTables.{read_off}
 use Rattle.multiportgraph.specs.Presumed.{OnBlock}
 use Rattle.multiportgraph.specs.declared.multiportgraph.PortUnlinked.{PortUnlinked}
 use Rattle.multiportgraph.proofs.CutLaws.{block_of_side}
@@ -14,5 +12,6 @@ on_block c = block_of_side c.requires c.args.port.0 (sym c.port_direction.ensure
 
 pub returns : goal.returns
 returns c =
+    let e = c.wire_tables.ensures in
     let b = on_block (goal.at.returns c).In_ok-port_direction in
-    ap (λ (u : PortUnlinked). u.answer) (port_cut_below c.requires b (sym c.is_split.ensures ∙ c.if-is_split.false) refl (c.plain_in.ensures ∙ read_off c.args.self.now (λ a b o f. plain_in b o f c.args.port.0) c.wire_tables.ensures))
+    ap (λ (u : PortUnlinked). u.answer) (port_cut_below c.requires b (sym c.is_split.ensures ∙ c.if-is_split.false) refl (rw (e.1, e.2, e.3) at c.plain_in.ensures))

@@ -14,6 +14,7 @@ returns-in_err-or c =
 pub overflow_add-self : goal.overflow_add-self
 overflow_add-self c = omega (arith, few_subs c.args.self.now c.requires.port.block.wf)
 
+-- `copy_low` and `grow_done` follow from the same steps. A step of its own for both would have to state what `grow_done` gives, which is longer than they are.
 pub last_beside-requires : goal.last_beside-requires
 last_beside-requires c =
     omega (arith, copy_low c.requires c.num_ports-count.ensures c.hidden_counts-incoming.ensures c.set_num_ports_quiet_lent.ensures.0 c.set_num_ports_quiet_lent.ensures.1 (or_ok _ _ c.or.ensures c.in_ok-or.was) c.wide-2.ensures (rw c.link_table-2.ensures at c.far_in-moved.ensures), grow_few c.requires, c.num_ports-count.ensures)

@@ -11,7 +11,7 @@ use Rattle.multiportgraph.proofs.multiportgraph.MultiPortGraph.link_seen.Goals.{
 
 -- the second port as the graph tells it
 told : (c : After-seen_in) → c.seen_in.result ≡ seen_as (seen c.args.self.now c.args.b.0)
-told c = seen_as_lem c.requires.wf c.args.b.0 (let e = c.wire_tables.ensures in rw (← e.2, ← e.3) c.seen_in.ensures)
+told c = seen_as_lem c.requires.wf c.args.b.0 (let e = c.wire_tables.ensures in rw (e.2, e.3) at c.seen_in.ensures)
 
 pub returns-then-a-b : goal.returns-then-a-b
 returns-then-a-b c = parts_untaken (call_self c.requires c.args.b.0 (told (goal.at.returns-then-a-b c).After-seen_in) c.in-Visible.is c.if-a-b.true) c.link_self.ensures

@@ -3,10 +3,10 @@ use Rattle.multiportgraph.specs.LinkMade.{self_stays, self_first, self_done}
 use Rattle.multiportgraph.proofs.multiportgraph.MultiPortGraph.link_self.Goals as goal
 
 pub need_of-again-requires : goal.need_of-again-requires
-need_of-again-requires c = self_stays c.args.self.now c.args.a.port c.args.a.side c.prepare.result c.prepare.ensures c.requires c.in_ok-first.was
+need_of-again-requires c = self_stays _ _ _ _ c.prepare.ensures c.requires c.in_ok-first.was
 
 pub link_second-requires : goal.link_second-requires
-link_second-requires c = (self_first c.args.self.now c.args.a.port c.args.a.side c.prepare.result c.prepare.ensures c.requires c.in_ok-first.was, c.need_of-again.ensures)
+link_second-requires c = (self_first _ _ _ _ c.prepare.ensures c.requires c.in_ok-first.was, c.need_of-again.ensures)
 
 pub returns : goal.returns
-returns c = self_done c.args.self.now c.args.a.port c.args.a.side c.prepare.result c.prepare.ensures c.requires c.in_ok-first.was c.link_second.ensures
+returns c = self_done _ _ _ _ c.prepare.ensures c.requires c.in_ok-first.was c.link_second.ensures

@@ -8,4 +8,4 @@ list_blocks-requires c = let e = c.list_tables.ensures in rw (e.0, e.4, e.5) (bl
 pub returns : goal.returns
 returns c =
     let e = c.list_tables.ensures in
-    blocks_list_told c.args.self.now c.requires c.args.list.now c.node_count-count.ensures (rw (← e.0, ← e.4, ← e.5) c.list_blocks.ensures)
+    blocks_list_told c.args.self.now c.requires c.args.list.now c.node_count-count.ensures (rw (e.0, e.4, e.5) at c.list_blocks.ensures)

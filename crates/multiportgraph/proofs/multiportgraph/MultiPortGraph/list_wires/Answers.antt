@@ -8,4 +8,4 @@ list_wires-requires c = let e = c.list_tables.ensures in rw (e.0, e.1, e.2, e.3,
 pub returns : goal.returns
 returns c =
     let e = c.list_tables.ensures in
-    wires_list_told c.args.self.now c.requires c.args.list.now c.link_count-count.ensures (rw (← e.0, ← e.1, ← e.2, ← e.3, ← e.4, ← e.5) c.list_wires.ensures)
+    wires_list_told c.args.self.now c.requires c.args.list.now c.link_count-count.ensures (rw (e.0, e.1, e.2, e.3, e.4, e.5) at c.list_wires.ensures)

@@ -1,7 +1,6 @@
 -- `portgraph::iter::Nodes::step` meets its contract: what `find` gives is what the search finds.
 use mathlib.Core.Path.{sym, ◌∙◌}
-use Rattle.std.proofs.Common.{rules, ◌≡◌, ◌-◌, true, false, add-one}
-use Rattle.std.proofs.lemmas.Iterator.{first_from_Range}
+use Rattle.std.proofs.Common.{rules, ◌≡◌, ◌-◌, add-one}
 use borrow.Author.Tests.{tests}
 use Rattle.port_tables.specs.Limits.{node_slots}
 use Rattle.port_tables.specs.TableSteps.{with_numbers}
@@ -12,10 +11,7 @@ use Rattle.portgraph.proofs.iter.Nodes.step.Goals as goal
 use Rattle.portgraph.proofs.iter.Nodes.step.Goals.{After-find}
 
 searched : (c : After-find) → c.find.result ≡ before node_slots (first_where (node_hit c.args.graph.now.node_meta) c.args.self.held (node_slots - c.args.self.held))
-searched c =
-    rw (← c.wide.ensures)
-    (found_where _ _ _ _
-    (first_from_Range _ _ _ _ (λ n. node_hit c.args.graph.now.node_meta n ≡ true) (λ n. node_hit c.args.graph.now.node_meta n ≡ false) c.find.ensures.ran (λ x q k. search (rules, tests)) (λ x q k. search (rules, tests))))
+searched c = rw (← c.wide.ensures) (found_where _ _ _ c.find.ensures.ran (λ x b q k. search (rules, tests)))
 
 pub returns-in_err-n : goal.returns-in_err-n
 returns-in_err-n c =

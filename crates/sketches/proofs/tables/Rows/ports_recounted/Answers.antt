@@ -1,17 +1,13 @@
 -- `Rows::ports_recounted` meets its contract: the rows are few, and each has few ports.
-use Rattle.std.proofs.Common.{rules, ◌≡◌, refl, ◌∙◌, arith, ◌+◌, ◌^◌, ◌≤◌, length, take, sum_by, map}
-use Rattle.std.proofs.lemmas.Iterator.{YieldsList-from_slice}
-use Rattle.std.proofs.lemmas.Iterator.Adapters.{fits_from_length, at_most_from_yields_List}
-use Rattle.sketches.specs.Rows.{block_of, row_slots}
+use Rattle.std.proofs.Common.{rules, ◌≡◌, refl, ◌∙◌, arith, ◌+◌, take, sum_by, map}
+use Rattle.sketches.specs.Rows.{block_of}
 use Rattle.sketches.specs.PlanCalls.{recount}
-use Rattle.sketches.specs.RowSteps.{ports_taken}
+use Rattle.sketches.specs.RowSteps.{sum_fits, ports_taken}
 use Rattle.sketches.specs.declared.rows.Row.{Row}
 use Rattle.sketches.proofs.tables.Rows.ports_recounted.Goals as goal
 
 pub sum-requires-clause-fits : goal.sum-requires-clause-fits
-sum-requires-clause-fits c =
-    let few : length (take c.args.self.now.count c.args.self.now.rows) ≤ row_slots = search rules in
-    fits_from_length _ _ row_slots (2 ^ 64) (at_most_from_yields_List (YieldsList-from_slice (take c.args.self.now.count c.args.self.now.rows) cc) few) c.map.ensures.closure (omega arith) (λ x r q k. search rules)
+sum-requires-clause-fits c = sum_fits (take c.args.self.now.count c.args.self.now.rows) (cc) (search rules) c.map.ensures.closure (λ x r q k. search rules)
 
 pub returns : goal.returns
 returns c =

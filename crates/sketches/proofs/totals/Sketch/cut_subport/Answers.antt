@@ -1,14 +1,18 @@
 -- `Sketch::cut_subport` meets its contract: what is refused, and the rows that are dropped.
-use mathlib.Core.Path.{◌≡◌, refl, sym, subst}
-use Rattle.sketches.specs.Plan.{Plan, offset_read}
-use Rattle.sketches.specs.PlanCalls.{subport_link, cut_subport}
+use Rattle.std.specs.Prelude.{Ok}
+use Rattle.std.proofs.Common.{refl}
+use Rattle.sketches.specs.PlanCalls.{cut_subport}
+use Rattle.sketches.specs.PlanNumbers.{found_numbers}
+use Rattle.sketches.specs.Held.{Left, held, plan_of}
 use Rattle.sketches.specs.CutSteps.{end_cut}
-use Rattle.sketches.specs.Held.{Held, plan_of, seen_as, back}
-use Rattle.sketches.specs.declared.tests.EndTest.TheVariants.{AtEnd}
 use Rattle.sketches.proofs.totals.Sketch.cut_subport.Goals as goal
+use Rattle.sketches.proofs.totals.Sketch.cut_subport.Goals.{After-drop_where}
+
+done : (c : After-drop_where) → Left found_numbers (cut_subport (plan_of c.args.self.now) c.args.end.port c.args.end.offset) (held c.self.inside.release c.self.inside.adds c.self.inside.blocks c.self.inside.splits c.drop_where.new.self) (Ok c.in_ok-far.far)
+done c = end_cut c.self.view_is c.self.invariant _ _ c.subport_link.ensures.answered c.in_ok-far.was c.end_test.ensures.is _ _ refl c.drop_where.ensures c.drop_where.new.self.full
 
 pub invariant_of-self : goal.invariant_of-self
-invariant_of-self c = (end_cut _ _ _ _ c.self.invariant c.args.end.port c.args.end.offset (subst (λ (k : Held). c.subport_link.result ≡ subport_link (plan_of k) c.args.end.port c.args.end.offset) (sym c.self.view_is) c.subport_link.ensures.answered) c.in_ok-far.was (back (λ (k : Plan). AtEnd c.args.end.port (offset_read k c.args.end.port c.args.end.offset)) c.self.view_is c.end_test.ensures.is) _ _ (c.drop_where.ensures, c.drop_where.new.self.full) refl).wf
+invariant_of-self c = (done (goal.at.invariant_of-self c).After-drop_where).wf
 
 pub returns : goal.returns
-returns c = seen_as (λ (k : Plan). cut_subport k c.args.end.port c.args.end.offset) c.self.view_is (end_cut _ _ _ _ c.self.invariant c.args.end.port c.args.end.offset (subst (λ (k : Held). c.subport_link.result ≡ subport_link (plan_of k) c.args.end.port c.args.end.offset) (sym c.self.view_is) c.subport_link.ensures.answered) c.in_ok-far.was (back (λ (k : Plan). AtEnd c.args.end.port (offset_read k c.args.end.port c.args.end.offset)) c.self.view_is c.end_test.ensures.is) _ _ (c.drop_where.ensures, c.drop_where.new.self.full) refl)
+returns c = done (goal.at.returns c).After-drop_where

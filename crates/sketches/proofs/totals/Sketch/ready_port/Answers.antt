@@ -1,13 +1,17 @@
 -- `Sketch::ready_port` meets its contract: the number of subports that the port has when it is ready.
-use mathlib.Core.Path.{◌≡◌, refl, sym, subst}
-use mathlib.Core.Bool.{true}
-use Rattle.sketches.specs.Plan.{Plan, is_there, subports_of, offset_ready, ready}
-use Rattle.sketches.specs.SplitSteps.{port_ready, plan_seen_as}
-use Rattle.sketches.specs.Held.{Held, plan_of, back}
+use Rattle.std.proofs.Common.{refl}
+use Rattle.sketches.specs.Plan.{ready}
+use Rattle.sketches.specs.Held.{held, plan_of}
+use Rattle.sketches.specs.CallParts.{HeldPlan}
+use Rattle.sketches.specs.SplitSteps.{port_ready}
 use Rattle.sketches.proofs.totals.Sketch.ready_port.Goals as goal
+use Rattle.sketches.proofs.totals.Sketch.ready_port.Goals.{After-set_subports}
+
+done : (c : After-set_subports) → HeldPlan (ready (plan_of c.args.self.now) c.args.port) (held c.self.inside.release c.self.inside.adds c.self.inside.blocks c.set_subports.new.self c.self.inside.wires)
+done c = port_ready c.self.view_is c.self.invariant _ c.requires c.offset_ready-offset.ensures c.subports_of.ensures.count c.subports_ready-subports.ensures _ _ refl c.set_subports.ensures c.set_subports.new.self.full
 
 pub invariant_of-self : goal.invariant_of-self
-invariant_of-self c = (port_ready _ _ _ _ c.self.invariant _ (subst (λ (k : Held). is_there (plan_of k) c.args.port ≡ true) (sym c.self.view_is) c.requires) (back (λ (k : Plan). offset_ready k c.args.port) c.self.view_is c.offset_ready-offset.ensures) (back (λ (k : Plan). subports_of k c.args.port) c.self.view_is c.subports_of.ensures.count) c.subports_ready-subports.ensures (c.set_subports.ensures, c.set_subports.new.self.full) refl).wf
+invariant_of-self c = (done (goal.at.invariant_of-self c).After-set_subports).wf
 
 pub returns-clause-is : goal.returns-clause-is
-returns-clause-is c = plan_seen_as (λ (k : Plan). ready k c.args.port) c.self.view_is (port_ready _ _ _ _ c.self.invariant _ (subst (λ (k : Held). is_there (plan_of k) c.args.port ≡ true) (sym c.self.view_is) c.requires) (back (λ (k : Plan). offset_ready k c.args.port) c.self.view_is c.offset_ready-offset.ensures) (back (λ (k : Plan). subports_of k c.args.port) c.self.view_is c.subports_of.ensures.count) c.subports_ready-subports.ensures (c.set_subports.ensures, c.set_subports.new.self.full) refl)
+returns-clause-is c = done (goal.at.returns-clause-is c).After-set_subports

@@ -2,7 +2,7 @@
 -- all.
 use native.Mathlib.Omega.{arith}
 use Rattle.port_tables.specs.Limits.{free_lists}
-use Rattle.slots.specs.LaySteps.{free_begun, range_turn, range_done, from_head}
+use Rattle.slots.specs.LaySteps.{free_begun, range_turn, from_head}
 use Rattle.slots.proofs.laying.Laid.lay_lists.Goals as goal
 
 pub loop-size-init : goal.loop-size-init
@@ -11,6 +11,3 @@ loop-size-init c = free_begun _ _ _ _
 pub loop-size-preserved : goal.loop-size-preserved
 loop-size-preserved c =
     range_turn _ c.loop-size.size free_lists c.loop-size.invariant (omega (arith, c.loop-size-test.true)) (from_head _ _ c.loop-size.size _ c.head_at-head.ensures c.lay_list.ensures)
-
-pub returns : goal.returns
-returns c = range_done _ c.loop-size.size free_lists c.loop-size.invariant (omega (arith, c.loop-size-test.false))

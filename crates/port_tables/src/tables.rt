@@ -204,8 +204,8 @@ fn told_link(far: u32) -> u32
 }
 
 // Cuts the links of `count` ports from `first` on as ports that are removed, tells each, and answers how many links there were.
-// The place of an event stays beside the list: a list lent from that place on would have to be long enough.
-#[tactic(auto, using(crate::specs::TableSteps::cut_range_first, crate::specs::TableSteps::cut_range_none, crate::specs::TableSteps::cut_count_first, crate::specs::TableSteps::cut_count_none, crate::specs::TableSteps::link_count_at_most_one, crate::specs::TableSteps::drop_events_first, crate::specs::TableSteps::drop_events_none, crate::specs::TableSteps::told_first))]
+// The place of an event stays beside the list: a list lent from that place on would have to be long enough. Into an empty list nothing is told, nor made ready to be.
+#[tactic(auto, using(crate::specs::TableSteps::cut_range_first, crate::specs::TableSteps::cut_range_none, crate::specs::TableSteps::cut_count_first, crate::specs::TableSteps::cut_count_none, crate::specs::TableSteps::link_count_at_most_one, crate::specs::TableSteps::drop_events_first, crate::specs::TableSteps::drop_events_none, crate::specs::TableSteps::told_first, crate::specs::TableSteps::untold))]
 pub fn drop_ports(
     links: &mut [u32; PORT_SLOTS],
     moves: &mut [u32],
@@ -218,6 +218,9 @@ pub fn drop_ports(
         × (links.new ≡ cut_range links.old first count)
         × (moves.new ≡ sets moves.old (3 * event) (drop_events links.old first count)) }
 {
+    if moves.is_empty() {
+        return cut_range(links, first, count);
+    }
     let mut n: usize = 0;
     for k in 0..count {
         let far = cut(links, first + k);
@@ -276,12 +279,15 @@ impl Shift {
         }
     }
 
-    // Tells the ports that move, in the order in which they do.
-    #[tactic(auto, unfolding(crate::specs::Tables::shift_events), using(crate::specs::TableSteps::move_up_events_first, crate::specs::TableSteps::move_up_events_none, crate::specs::TableSteps::move_down_events_first, crate::specs::TableSteps::move_down_events_none, crate::specs::TableSteps::told_first))]
+    // Tells the ports that move, in the order in which they do; none where the list is empty.
+    #[tactic(auto, unfolding(crate::specs::Tables::shift_events), using(crate::specs::TableSteps::move_up_events_first, crate::specs::TableSteps::move_up_events_none, crate::specs::TableSteps::move_down_events_first, crate::specs::TableSteps::move_down_events_none, crate::specs::TableSteps::told_first, crate::specs::TableSteps::untold))]
     pub fn tell_moves(self, moves: &mut [u32], event: usize, ascending: bool)
         requires { (event + self.count ≤ port_slots) × ShiftFits self }
         ensures { moves.new ≡ sets moves.old (3 * event) (shift_events ascending self.from self.to self.count) }
     {
+        if moves.is_empty() {
+            return;
+        }
         for k in 0..self.count {
             let at = self.place(ascending, k);
             put_event(

@@ -2,6 +2,8 @@
 // are run, and the program prints how many answers are equal. The check runs it on the list of `host/sample`.
 #![tactic(auto)]
 
+ghost use Rattle.std.specs.Prelude.{◌≤◌, length};
+
 use records::run::run_records;
 use std::fmt;
 use std::fmt::Write;
@@ -61,7 +63,9 @@ fn replay(input: &[u8], answers: &mut [u8]) -> Result<(usize, usize), Unfit> {
 
 // Reads until the buffer is full, the input ends or a read fails, and gives the part that was read.
 // Stays a while: each read says itself how far it came.
-fn read_full<'a, I: Read>(source: &mut I, input: &'a mut [u8]) -> &'a [u8] {
+fn read_full<'a, I: Read>(source: &mut I, input: &'a mut [u8]) -> &'a [u8]
+    ensures { length result.now ≤ length input.old }
+{
     let mut len: usize = 0;
     while len < input.len() {
         match source.read(&mut input[len..]) {

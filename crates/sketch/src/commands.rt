@@ -15,7 +15,7 @@ use sketches::totals::Sketch;
 // An empty sketch.
 fn begin(rt: &impl Print, sketch: &mut Sketch, order: Order) {
     write_bytes(rt, b"ok\n");
-    *sketch = Sketch::new(release_of(order.number(0)));
+    sketch.begin(release_of(order.number(0)));
 }
 
 // A command; the text is that of its line.

@@ -1,10 +1,17 @@
 // What the program says of itself: how it is started, and its commands.
-use lines::arguments::USAGE;
 use lines::show::write_bytes;
 
+// Stays in both consoles: written at once, it stands whole in each.
 pub(crate) fn show_usage(rt: &impl Print) {
-    write_bytes(rt, b"usage: sketch");
-    write_bytes(rt, USAGE);
+    write_bytes(
+        rt,
+        b"\
+usage: sketch [--echo]
+Commands come on standard input, one a line, and each is answered at once; `help` lists them.
+  --echo  prints each line before its answer
+  --help  prints these lines
+",
+    );
 }
 
 // The commands in groups: what each does, and after the colon what it answers.

@@ -5,13 +5,10 @@ use crate::orders::Order;
 use crate::replies::show_too_many;
 use lines::show::{Line, show_number};
 use lines::text::{next_word, number_or_zero};
-use sketches::sheet::{SHEET_ENTRIES, no_entry};
+use sketches::sheet::{SHEET_PLACES, no_entry};
 use sketches::sketch::{SheetEntry, SketchPort};
 use sketches::tests::side_of;
 use sketches::totals::Sketch;
-
-// One place more than a sheet has entries, so that a sheet that is too long can be handed in. Stays beside that of `sheets`: each sheet has its own most entries.
-const SHEET_PLACES: usize = SHEET_ENTRIES + 1;
 
 // The port that the next three numbers of a line name, and where they end.
 fn read_port(text: &[u8], from: usize) -> (SketchPort, usize) {
@@ -41,23 +38,21 @@ fn put_entries(sheet: &mut [SheetEntry], text: &[u8], from: usize) {
     }
 }
 
-// The answers of entries.
-fn show_entries(rt: &impl Print, entries: &[SheetEntry]) {
-    for entry in entries {
+// The answers of the first entries.
+fn show_entries(rt: &impl Print, entries: &[SheetEntry], count: usize) {
+    for entry in entries.iter().take(count) {
         show_linked_on(rt, Line::of(b"  "), entry.answer);
     }
 }
 
-// A command that links the entries of a line, one after the other. Stays in both consoles, as the entries do: the call and the answers are each one's own.
+// A command that links the entries of a line, one after the other: the first places, as many as there are entries, and all of them where a line has more. Stays in both consoles, as the entries do: the call and the answers are each one's own.
 pub(crate) fn link_sheet(rt: &impl Print, sketch: &mut Sketch, order: Order, text: &[u8]) {
     let mut places = [no_entry(); SHEET_PLACES];
-    // Of a line with more entries all that fit are lent: the sheet is too long with them.
-    let sheet = &mut places[..order.entries.min(SHEET_PLACES)];
-    put_entries(sheet, text, order.from);
-    match sketch.link_sheet(sheet) {
+    put_entries(&mut places, text, order.from);
+    match sketch.link_first(&mut places, order.entries) {
         Ok(()) => {
-            show_entries(rt, sheet);
-            show_number(rt, sheet.len() as u64);
+            show_entries(rt, &places, order.entries);
+            show_number(rt, order.entries as u64);
         }
         Err(reason) => show_too_many(rt, reason),
     }

@@ -1,5 +1,5 @@
 -- The parts of the calls, as the contracts of the functions under them cite them.
-use Rattle.std.specs.Prelude.{◌≡◌, Bool, true, false, not, ◌||◌, List, ℕ, ◌+◌, ◌≤◌, ◌<◌, eqb, leb, ltb, length, Result, Ok, Err, Option, Some, None, cond, get_or, set}
+use Rattle.std.specs.Prelude.{◌≡◌, Bool, true, false, not, ◌||◌, List, ℕ, ◌+◌, ◌≤◌, ◌<◌, eqb, leb, ltb, length, min, take, drop, Result, Ok, Err, Option, Some, None, cond, get_or, set}
 use Rattle.port_tables.specs.Limits.{node_slots, port_slots}
 use Rattle.port_tables.specs.Places.{Place, Wire, at_spot, at_end, Spot, any_touches}
 use Rattle.sketches.specs.Plan.{PlanBlock, Plan, has_block, ports_in_all, spot_named, is_there, lacks_offset, Far, nothing, far, input_taken, subports_among}
@@ -155,3 +155,12 @@ pub record SheetLeaves (K : Plan) (entries : List SheetEntry) (k : Held) (after 
   pub numbered : sheet_numbers answer ≡ sheet_numbers (sheet K entries).answer
   pub answers : length entries ≤ sheet_entries → after ≡ sheet_answered K entries
   pub untouched : sheet_entries < length entries → after ≡ entries
+
+-- a sheet whose caller holds its entries in an array has one place more than entries, so that one that is too long can be handed in
+abbrev pub sheet_places : ℕ
+sheet_places = 65
+
+-- The first places, as many as are counted, are the sheet, and all of them where the count is more; the others stay.
+pub record FirstLeaves (K : Plan) (places : List SheetEntry) (count : ℕ) (k : Held) (after : List SheetEntry) (answer : Result (Unit {0}) TooManyEntries) : Type 0 where
+  pub sheet : SheetLeaves K (take (min count sheet_places) places) k (take (min count sheet_places) after) answer
+  pub others : drop (min count sheet_places) after ≡ drop (min count sheet_places) places

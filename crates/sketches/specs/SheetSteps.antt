@@ -1,14 +1,15 @@
 -- A sheet over the tables: the entries that are left, on the tables as they are, amount to the whole.
-use Rattle.std.specs.Prelude.{◌≡◌, refl, List, [], ◌++◌, ℕ, ◌≤◌, ◌<◌, length, take, drop, Result, Ok, Err}
-use Rattle.std.proofs.Common.{sym, ap, ◌∙◌, append-nil, arith, take_all, lt-ltb, le-ltb}
+use Rattle.std.specs.Prelude.{◌≡◌, refl, List, [], ◌++◌, ℕ, ◌≤◌, ◌<◌, length, min, take, drop, Result, Ok, Err}
+use Rattle.std.proofs.Common.{sym, subst, ap, ◌∙◌, append-nil, arith, take_all, lt-ltb, le-ltb}
 use Rattle.std.proofs.Math.ListN.{drop_of_length-le}
+use Rattle.std.proofs.Math.Seq.{take-append_seam, drop-append_seam}
 use Rattle.sketches.specs.Plan.{Plan}
 use Rattle.sketches.specs.PlanCalls.{Sketched, leaves, sheet_entries, sheet_plan, sheet_answered, sheet}
 use Rattle.sketches.specs.PlanNumbers.{sheet_numbers}
 use Rattle.sketches.specs.Held.{Held, plan_of}
 use Rattle.sketches.specs.declared.sketch.TooManyEntries.{TooManyEntries}
 use Rattle.sketches.specs.declared.sketch.SheetEntry.{SheetEntry}
-use Rattle.sketches.specs.CallParts.{SheetLeaves}
+use Rattle.sketches.specs.CallParts.{SheetLeaves, sheet_places, FirstLeaves}
 
 sheet_long : (K : Plan) (l : List SheetEntry) → sheet_entries < length l → sheet K l ≡ leaves K (Err (record {}))
 unfolding sheet
@@ -52,4 +53,19 @@ sheeting_ends {K} {es} {k} {done} {i} l c h =
       numbered = ap (λ (c : Sketched (Result (Unit {0}) TooManyEntries)). sheet_numbers c.answer) e;
       answers = λ z. all;
       untouched = λ z. absurd (omega arith);
+    }
+
+-- The sheet is the first of a caller's places.
+pub first_leaves : {K : Plan} {k : Held} {places part : List SheetEntry} {answer : Result (Unit {0}) TooManyEntries} (n count : ℕ) → n ≡ min count sheet_places → length part ≡ n →
+    SheetLeaves K (take n places) k part answer → FirstLeaves K places count k (part ++ drop n places) answer
+first_leaves {K} {k} {places} {part} {answer} n count e l s =
+    let front : take n (part ++ drop n places) ≡ part = ap (λ (m : ℕ). take m (part ++ drop n places)) (sym l) ∙ take-append_seam part (drop n places) in
+    let rest : drop n (part ++ drop n places) ≡ drop n places = ap (λ (m : ℕ). drop m (part ++ drop n places)) (sym l) ∙ drop-append_seam part (drop n places) in
+    record {
+      sheet =
+          subst
+          (λ (m : ℕ). SheetLeaves K (take m places) k (take m (part ++ drop n places)) answer)
+          e
+          (subst (λ (p : List SheetEntry). SheetLeaves K (take n places) k p answer) (sym front) s);
+      others = subst (λ (m : ℕ). drop m (part ++ drop n places) ≡ drop m places) e rest;
     }

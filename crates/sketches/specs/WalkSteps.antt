@@ -94,6 +94,25 @@ module _ (t : List Row) (n : ℕ) (w : Walk) (k : Option ℕ) where
       unfolding next_block
       block_gives l = ap (block_below t w) (sym (ap past z) ∙ same_block l)
 
+  -- of any table and any number, as many rows as it has are looked through
+  module _ {c : ℕ} (m : c ≡ min n 3072) (e : past k ≡ newest_hit (hits w.test) t w.low (min w.high c)) where
+    same_among : past k ≡ newest_hit (hits w.test) t w.low (min w.high (min n 3072))
+    same_among = e ∙ ap (λ (x : ℕ). newest_hit (hits w.test) t w.low (min w.high x)) m
+
+    pub among_within : {i : ℕ} → k ≡ Some i → i < 3072
+    among_within {i} z =
+        let s : suc i ≡ newest_hit (hits w.test) t w.low (min w.high (min n 3072)) = sym (ap past z) ∙ same_among in
+        let h = newest_high (hits w.test) t w.low (min w.high (min n 3072)) in
+        omega arith
+
+    pub among_ends : k ≡ None → None ≡ next_block t n w
+    unfolding next_block
+    among_ends z = ap (block_below t w) (sym (ap past z) ∙ same_among)
+
+    pub among_gives : {i : ℕ} → k ≡ Some i → Some ((row_at t i).0, record { low = w.low; high = i; test = w.test }) ≡ next_block t n w
+    unfolding next_block
+    among_gives z = ap (block_below t w) (sym (ap past z) ∙ same_among)
+
   module _ (e : past k ≡ oldest_hit (hits w.test) t w.low (min w.high n - w.low)) where
     pub previous_ends : k ≡ None → None ≡ previous_wire t n w
     unfolding previous_wire

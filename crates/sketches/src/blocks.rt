@@ -60,12 +60,12 @@ impl Sketch {
     pub fn resize(&mut self, name: u32, incoming: u32, outgoing: u32) -> Result<(), Reason>
         ensures { Left done_numbers (set_counts (plan_of self.old) name incoming outgoing) self.new result }
     {
-        // Sought before any answer: it tells that the sketch is well formed, which a refusal keeps.
-        let found = self.find_block(name);
+        // Asked before any answer: it tells that the sketch is well formed, which a refusal keeps. The block is sought only then.
+        let _ = self.totals();
         if NODE_PORTS < wide(incoming) + wide(outgoing) {
             return Err(Reason::TooManyPorts);
         }
-        found?;
+        self.find_block(name)?;
         let block = Row(name, incoming, outgoing, 0, 0, 0);
         if PORT_SLOTS < self.blocks.ports_recounted(block) {
             return Err(Reason::NoRoom);

@@ -10,12 +10,22 @@ use crate::tests::{Test, Walk, hits, whole_walk};
 use port_tables::numbers::wide;
 
 // Stays an array with its count, in one struct: there is no heap.
-#[derive(Drop)]
+#[derive(Clone, Copy)]
 pub(crate) struct Rows {
     pub rows: [Row; ROWS],
     pub count: usize,
     ghost full: { Table rows },
     ghost within: { count ≤ row_slots },
+}
+
+// The newest row that is hit, of those among the first `count` that are left of a walk.
+pub(crate) fn newest_among(rows: &[Row; ROWS], count: usize, walk: Walk) -> Option<usize>
+    requires { count ≤ row_slots }
+    ensures { past result ≡ newest_hit (hits walk.test) rows.now walk.low (min walk.high count) }
+{
+    (walk.low..walk.high.min(count))
+        .rev()
+        .find(|i| hits(walk.test, rows[*i]))
 }
 
 impl Rows {
@@ -31,13 +41,18 @@ impl Rows {
         }
     }
 
+    // No row is in use any more.
+    pub(crate) fn clear(&mut self)
+        ensures { self.new.count ≡ 0 }
+    {
+        self.count = 0;
+    }
+
     // The newest row that is hit, of those that are left of a walk.
     pub(crate) fn newest_left(&self, walk: Walk) -> Option<usize>
         ensures { past result ≡ newest_hit (hits walk.test) self.now.rows walk.low (min walk.high self.now.count) }
     {
-        (walk.low..walk.high.min(self.count))
-            .rev()
-            .find(|i| hits(walk.test, self.rows[*i]))
+        newest_among(&self.rows, self.count, walk)
     }
 
     // The oldest. Stays beside `newest_left`: one search for both would take the places as an iterator, and say of it from which end it goes.

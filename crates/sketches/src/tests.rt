@@ -196,6 +196,8 @@ fn neighbour(block: u32, side: Direction, flag: bool, row: Row) -> bool
     block_on(row, side) == block && (!flag || side == Direction::Outgoing || row.0 != block)
 }
 
+// Inlined, so that a search looks at the kind of its test once: else the test is handed over anew with each row.
+#[inline(always)]
 pub(crate) fn hits(test: Test, row: Row) -> bool
     ensures { result ≡ hits test row }
 {

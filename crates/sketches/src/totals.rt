@@ -1,13 +1,25 @@
 // A sketch: three tables of rows, and the numbers beside them.
 ghost use Rattle.std.specs.Prelude.{◌≡◌};
 ghost use Rattle.sketches.specs.Plan.{empty_plan};
-ghost use Rattle.sketches.specs.Held.{plan_of};
+ghost use Rattle.sketches.specs.Held.{plan_of, HeldWf};
 
 use crate::tables::Rows;
 use port_tables::release::Release;
 use std::marker::Model;
 
-#[derive(Drop)]
+// What a sketch has besides its tables.
+#[derive(Clone, Copy)]
+pub struct Totals {
+    pub release: Release,
+    // The adds that were accepted.
+    pub adds: u32,
+    // The rows of each table.
+    pub blocks: usize,
+    pub splits: usize,
+    pub wires: usize,
+}
+
+#[derive(Clone, Drop)]
 pub struct Sketch {
     pub(crate) release: Release,
     // The adds that were accepted.
@@ -40,5 +52,32 @@ impl Sketch {
             splits: Rows::new(),
             wires: Rows::new(),
         }
+    }
+
+    // What the sketch has besides its tables. That it is well formed stands in a clause too: who asks this may answer before another field is read.
+    pub fn totals(&self) -> Totals
+        ensures told { (result.release ≡ self.now.totals.release) × (result.adds ≡ self.now.totals.adds) × (result.blocks ≡ self.now.totals.blocks)
+            × (result.splits ≡ self.now.totals.splits) × (result.wires ≡ self.now.totals.wires) }
+        ensures wf { HeldWf self.now }
+    {
+        Totals {
+            release: self.release,
+            adds: self.adds,
+            blocks: self.blocks.count,
+            splits: self.splits.count,
+            wires: self.wires.count,
+        }
+    }
+
+    // Empties a sketch that is there, for a release: nothing is in use any more. What stands in its tables is not written over.
+    #[tactic(auto, unfolding(crate::specs::Rows::rows_in, crate::specs::Plan::ports_in_all))]
+    pub fn begin(&mut self, release: Release)
+        ensures { plan_of self.new ≡ empty_plan release }
+    {
+        self.release = release;
+        self.adds = 0;
+        self.blocks.clear();
+        self.splits.clear();
+        self.wires.clear();
     }
 }

@@ -5,8 +5,11 @@ ghost use Rattle.sketches.specs.Rows.{wire_of, row_at};
 ghost use Rattle.sketches.specs.Held.{plan_of};
 ghost use Rattle.sketches.specs.SketchWalks.{start_of, subports_from, whole_walk, wire_held, next_wire, previous_wire, next_block, next_subport, Knows};
 
+use crate::rows::{ROWS, Row};
 use crate::sketch::{Reason, SketchEnd, SketchPort};
-use crate::tests::{EndTest, Test, Walk, in_end, out_end, whole_walk};
+use crate::tables::newest_among;
+use crate::tests::{EndTest, Test, in_end, out_end};
+pub use crate::tests::{Walk, whole_walk};
 use crate::totals::Sketch;
 use port_tables::direction::Direction;
 
@@ -22,6 +25,15 @@ pub struct SketchWire {
 pub struct SubportWalk {
     pub port: SketchPort,
     pub offset: u32,
+}
+
+// The next block of any table, by its name: of its first `count` rows, or of all if `count` is more. It asks nothing of what the rows hold.
+#[tactic(auto, using(crate::specs::WalkSteps::among_within, crate::specs::WalkSteps::among_ends, crate::specs::WalkSteps::among_gives))]
+pub fn next_block_among(rows: &[Row; ROWS], count: usize, walk: Walk) -> Option<(u32, Walk)>
+    ensures { result ≡ next_block rows.now count walk }
+{
+    let i = newest_among(rows, count.min(ROWS), walk)?;
+    Some((rows[i].0, Walk { high: i, ..walk }))
 }
 
 impl Sketch {

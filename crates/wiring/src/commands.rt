@@ -22,53 +22,51 @@ use records::requests::Ask;
 use std::fs::Files;
 
 // What a request asks, and so many values of its answer.
-fn request(rt: &impl Print, graph: MultiPortGraph, asked: Ask, values: usize) -> MultiPortGraph
-    requires { MultiWf graph }
-    ensures { MultiWf result }
+fn request(rt: &impl Print, graph: &mut MultiPortGraph, asked: Ask, values: usize)
+    requires { MultiWf graph.old }
+    ensures { MultiWf graph.new }
 {
-    let told = answer(graph, asked);
+    let told = answer(*graph, asked);
+    *graph = told.graph;
     show_answer(rt, told.answer, values);
-    told.graph
 }
 
-fn link_cleanly(rt: &impl Print, graph: MultiPortGraph, order: Order) -> MultiPortGraph
-    requires { MultiWf graph }
-    ensures { MultiWf result }
+fn link_cleanly(rt: &impl Print, graph: &mut MultiPortGraph, order: Order)
+    requires { MultiWf graph.old }
+    ensures { MultiWf graph.new }
 {
-    let told = link_clean(graph, order.number(0), order.number(1));
+    let told = link_clean(*graph, order.number(0), order.number(1));
+    *graph = told.graph;
     show_answer(rt, told.answer, 4);
-    told.graph
 }
 
 // An empty wiring of the release that the order names, 1 or 2.
-fn begin(rt: &impl Print, order: Order) -> MultiPortGraph
-    ensures { MultiWf result }
+fn begin(rt: &impl Print, graph: &mut MultiPortGraph, order: Order)
+    ensures { MultiWf graph.new }
 {
     write_bytes(rt, b"ok\n");
-    empty(release_of(order.number(0)))
+    *graph = empty(release_of(order.number(0)));
 }
 
-// A command that changes the graph, or asks for what a request asks; the text is that of its line.
+// A command that changes the graph, or asks for what a request asks; the text is that of its line. The graph is lent, so that a command copies it no more often than its call does.
 // Stay three parameters: a struct of them would be made in one place, and taken apart by each arm.
-pub(crate) fn run(
-    rt: &(impl Files + Print),
-    graph: MultiPortGraph,
-    order: Order,
-    text: &[u8],
-) -> MultiPortGraph
-    requires { MultiWf graph }
-    ensures { MultiWf result }
+pub(crate) fn run(rt: &(impl Files + Print), graph: &mut MultiPortGraph, order: Order, text: &[u8])
+    requires { MultiWf graph.old }
+    ensures { MultiWf graph.new }
 {
     match order.command {
-        Command::Quit => graph,
-        Command::Resize => resize_block(rt, graph, order),
-        Command::Sheet => link_pairs(rt, graph, order, text),
-        Command::Load => load_from(rt, graph, order, text),
-        Command::New => begin(rt, order),
+        Command::Quit => {}
+        Command::Resize => *graph = resize_block(rt, *graph, order),
+        Command::Sheet => *graph = link_pairs(rt, *graph, order, text),
+        Command::Load => *graph = load_from(rt, *graph, order, text),
+        Command::New => begin(rt, graph, order),
         Command::Remove => request(rt, graph, Ask::Remove(node_at(order, 0)), 0),
         Command::Add => request(rt, graph, Ask::Add(order.number(0), order.number(1)), 2),
-        Command::Unlink => show_cut(rt, cut_port(graph, order.number(0))),
-        Command::UnlinkSub => { show_cut(rt, cut_subport(graph, order.number(0), order.offset(1))) }
+        Command::Unlink => *graph = show_cut(rt, cut_port(*graph, order.number(0))),
+        Command::UnlinkSub => *graph = show_cut(
+            rt,
+            cut_subport(*graph, order.number(0), order.offset(1)),
+        ),
         Command::Counts => request(rt, graph, Ask::Counts, 3),
         Command::Link => {
             request(
@@ -83,11 +81,8 @@ pub(crate) fn run(
             request(rt, graph, asked, 4)
         }
         Command::LinkClean => link_cleanly(rt, graph, order),
-        Command::Tidy => tidy(rt, graph, order),
-        _ => {
-            look(rt, &graph, order, text);
-            graph
-        }
+        Command::Tidy => *graph = tidy(rt, *graph, order),
+        _ => look(rt, graph, order, text),
     }
 }
 

@@ -20,7 +20,7 @@ fn converse(rt: &(impl Files + Print + Input), buffer: &mut [u8], echo: bool) {
                 if order.command == Command::Quit {
                     return;
                 }
-                graph = run_timed(rt, graph, order, heard.text, &mut times);
+                run_timed(rt, &mut graph, order, heard.text, &mut times);
             }
         }
         if listener.ended {

@@ -8,8 +8,8 @@ use lines::text::{Span, next_word, number_or_zero};
 use multiportgraph::multiportgraph::MultiPortGraph;
 use port_tables::index::PortIndex;
 use records::answers::link_words;
-use sheets::held::SHEET_PLACES;
-use sheets::sheet::{SheetEntry, link_sheet};
+use sheets::held::{SHEET_PLACES, link_held};
+use sheets::sheet::SheetEntry;
 
 // The port that a word names.
 fn port_of(text: &[u8], word: Span) -> PortIndex {
@@ -27,8 +27,9 @@ fn put_entries(sheet: &mut [SheetEntry], text: &[u8], from: usize) {
     }
 }
 
-// The pairs of a line are linked, one after the other. Stays in both consoles, as the entries do: the call and the answers are each one's own.
-#[tactic(auto, using(sheets::specs::SheetLaws::sheet_kept))]
+// The pairs of a line are linked, one after the other: the first places, as many as there are entries, and all of them where a line has more. Stays in both consoles, as
+// the entries do: the call and the answers are each one's own.
+#[tactic(auto, using(sheets::specs::SheetLaws::held_kept))]
 pub(crate) fn link_pairs(
     rt: &impl Print,
     graph: MultiPortGraph,
@@ -40,16 +41,14 @@ pub(crate) fn link_pairs(
 {
     let none = SheetEntry::new(PortIndex(0), PortIndex(0));
     let mut places = [none; SHEET_PLACES];
-    // Of a line with more entries all that fit are lent: the sheet is too long with them.
-    let sheet = &mut places[..order.entries.min(SHEET_PLACES)];
-    put_entries(sheet, text, order.from);
-    let linked = link_sheet(graph, sheet);
+    put_entries(&mut places, text, order.from);
+    let linked = link_held(graph, places, order.entries);
     match linked.answer {
         Ok(()) => {
-            for entry in sheet.iter() {
+            for entry in linked.places.iter().take(order.entries) {
                 show_item(rt, link_words(entry.answer), 4);
             }
-            show_number(rt, sheet.len() as u64);
+            show_number(rt, order.entries as u64);
         }
         Err(_) => show_refusal_number(rt, Reason::TooManyEntries),
     }

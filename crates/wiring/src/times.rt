@@ -80,20 +80,19 @@ fn show_run_order(rt: &impl Print, graph: &MultiPortGraph, order: Order, text: &
 // One command: on times, or on the graph.
 pub(crate) fn run_timed(
     rt: &(impl Files + Print),
-    graph: MultiPortGraph,
+    graph: &mut MultiPortGraph,
     order: Order,
     text: &[u8],
     times: &mut [u16; NODE_SLOTS],
-) -> MultiPortGraph
-    requires { MultiWf graph }
-    ensures { MultiWf result }
+)
+    requires { MultiWf graph.old }
+    ensures { MultiWf graph.new }
 {
     match order.command {
         Command::Time => set_time(rt, times, order),
-        Command::Longest => show_sum(rt, longest(&graph, node_at(order, 0), times)),
-        Command::Path => show_path(rt, &graph, order, times),
-        Command::RunOrder => show_run_order(rt, &graph, order, text),
-        _ => return run(rt, graph, order, text),
+        Command::Longest => show_sum(rt, longest(graph, node_at(order, 0), times)),
+        Command::Path => show_path(rt, graph, order, times),
+        Command::RunOrder => show_run_order(rt, graph, order, text),
+        _ => run(rt, graph, order, text),
     }
-    graph
 }

@@ -9,7 +9,7 @@ use Rattle.sketches.proofs.totals.Sketch.resize.Goals as goal
 use Rattle.sketches.proofs.totals.Sketch.resize.Goals.{After-drop_where-2}
 
 done : (c : After-drop_where-2) → Left done_numbers (set_counts (plan_of c.args.self.now) c.args.name c.args.incoming c.args.outgoing) (held c.self.inside.release c.self.inside.adds c.recount.new.self c.drop_where.new.self c.drop_where-2.new.self) (Ok tt)
-done c = resized c.self.view_is c.self.invariant _ c.find_block-found.ensures.found c.in_ok-found.was _ _ _ _ _ _ refl c.recount.new.self.full c.drop_where.new.self.full c.drop_where-2.new.self.full _ _ c.wide.ensures c.wide-2.ensures c.if-wide-gt-NODE_PORTS.false c.ports_recounted.ensures c.if-ports_recounted-gt-PORT_SLOTS.false c.recount.ensures c.drop_where.ensures c.drop_where-2.ensures
+done c = resized c.self.view_is c.self.invariant _ c.find_block.ensures.found c.in_ok-find_block.was _ _ _ _ _ _ refl c.recount.new.self.full c.drop_where.new.self.full c.drop_where-2.new.self.full _ _ c.wide.ensures c.wide-2.ensures c.if-wide-gt-NODE_PORTS.false c.ports_recounted.ensures c.if-ports_recounted-gt-PORT_SLOTS.false c.recount.ensures c.drop_where.ensures c.drop_where-2.ensures
 
 pub invariant_of-self : goal.invariant_of-self
 invariant_of-self c = (done (goal.at.invariant_of-self c).After-drop_where-2).wf

@@ -73,14 +73,6 @@ module _ (t : List Row) (n : ℕ) (w : Walk) (k : Option ℕ) where
     unfolding next_wire
     next_ends z = ap (wire_below t w) (sym (ap past z) ∙ e)
 
-    -- in a table the least of its rows in use and of all of its rows is the first
-    same_block : n ≤ 3072 → past k ≡ newest_hit (hits w.test) t w.low (min w.high (min n 3072))
-    same_block l = e ∙ ap (newest_hit (hits w.test) t w.low) (omega arith)
-
-    pub block_ends : n ≤ 3072 → k ≡ None → None ≡ next_block t n w
-    unfolding next_block
-    block_ends l z = ap (block_below t w) (sym (ap past z) ∙ same_block l)
-
     module _ {i : ℕ} (z : k ≡ Some i) where
       pub next_within : i < n
       next_within = let s : suc i ≡ newest_hit (hits w.test) t w.low (min w.high n) = sym (ap past z) ∙ e in let h = newest_high (hits w.test) t w.low (min w.high n) in omega arith
@@ -90,28 +82,24 @@ module _ (t : List Row) (n : ℕ) (w : Walk) (k : Option ℕ) where
       next_gives {x} q =
           ap (λ (y : SketchWire). Some (y, record { low = w.low; high = i; test = w.test })) q ∙ ap (wire_below t w) (sym (ap past z) ∙ e)
 
-      pub block_gives : n ≤ 3072 → Some ((row_at t i).0, record { low = w.low; high = i; test = w.test }) ≡ next_block t n w
-      unfolding next_block
-      block_gives l = ap (block_below t w) (sym (ap past z) ∙ same_block l)
-
   -- of any table and any number, as many rows as it has are looked through
   module _ {c : ℕ} (m : c ≡ min n 3072) (e : past k ≡ newest_hit (hits w.test) t w.low (min w.high c)) where
-    same_among : past k ≡ newest_hit (hits w.test) t w.low (min w.high (min n 3072))
-    same_among = e ∙ ap (λ (x : ℕ). newest_hit (hits w.test) t w.low (min w.high x)) m
+    same_block : past k ≡ newest_hit (hits w.test) t w.low (min w.high (min n 3072))
+    same_block = e ∙ ap (λ (x : ℕ). newest_hit (hits w.test) t w.low (min w.high x)) m
 
-    pub among_within : {i : ℕ} → k ≡ Some i → i < 3072
-    among_within {i} z =
-        let s : suc i ≡ newest_hit (hits w.test) t w.low (min w.high (min n 3072)) = sym (ap past z) ∙ same_among in
+    pub block_within : {i : ℕ} → k ≡ Some i → i < 3072
+    block_within {i} z =
+        let s : suc i ≡ newest_hit (hits w.test) t w.low (min w.high (min n 3072)) = sym (ap past z) ∙ same_block in
         let h = newest_high (hits w.test) t w.low (min w.high (min n 3072)) in
         omega arith
 
-    pub among_ends : k ≡ None → None ≡ next_block t n w
+    pub block_ends : k ≡ None → None ≡ next_block t n w
     unfolding next_block
-    among_ends z = ap (block_below t w) (sym (ap past z) ∙ same_among)
+    block_ends z = ap (block_below t w) (sym (ap past z) ∙ same_block)
 
-    pub among_gives : {i : ℕ} → k ≡ Some i → Some ((row_at t i).0, record { low = w.low; high = i; test = w.test }) ≡ next_block t n w
+    pub block_gives : {i : ℕ} → k ≡ Some i → Some ((row_at t i).0, record { low = w.low; high = i; test = w.test }) ≡ next_block t n w
     unfolding next_block
-    among_gives z = ap (block_below t w) (sym (ap past z) ∙ same_among)
+    block_gives z = ap (block_below t w) (sym (ap past z) ∙ same_block)
 
   module _ (e : past k ≡ oldest_hit (hits w.test) t w.low (min w.high n - w.low)) where
     pub previous_ends : k ≡ None → None ≡ previous_wire t n w

@@ -28,7 +28,7 @@ pub struct SubportWalk {
 }
 
 // The next block of any table, by its name: of its first `count` rows, or of all if `count` is more. It asks nothing of what the rows hold.
-#[tactic(auto, using(crate::specs::WalkSteps::among_within, crate::specs::WalkSteps::among_ends, crate::specs::WalkSteps::among_gives))]
+#[tactic(auto, using(crate::specs::WalkSteps::block_within, crate::specs::WalkSteps::block_ends, crate::specs::WalkSteps::block_gives))]
 pub fn next_block_among(rows: &[Row; ROWS], count: usize, walk: Walk) -> Option<(u32, Walk)>
     ensures { result ≡ next_block rows.now count walk }
 {
@@ -115,12 +115,10 @@ impl Sketch {
     }
 
     // The next block, by its name.
-    #[tactic(auto, using(crate::specs::WalkSteps::next_within, crate::specs::WalkSteps::block_ends, crate::specs::WalkSteps::block_gives))]
     pub fn next_block(&self, walk: Walk) -> Option<(u32, Walk)>
         ensures { result ≡ next_block self.now.blocks self.now.totals.blocks walk }
     {
-        let i = self.blocks.newest_left(walk)?;
-        Some((self.blocks.rows[i].0, Walk { high: i, ..walk }))
+        next_block_among(&self.blocks.rows, self.blocks.count, walk)
     }
 
     // The offsets of a port: those of its subports, or 0 alone.

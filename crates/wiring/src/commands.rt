@@ -48,7 +48,7 @@ fn begin(rt: &impl Print, graph: &mut MultiPortGraph, order: Order)
     *graph = empty(release_of(order.number(0)));
 }
 
-// A command that changes the graph, or asks for what a request asks; the text is that of its line. The graph is lent, so that a command copies it no more often than its call does.
+// A command that changes the graph, or asks for what a request asks; the text is that of its line. The graph is lent; only a command whose call takes it by value copies it.
 // Stay three parameters: a struct of them would be made in one place, and taken apart by each arm.
 pub(crate) fn run(rt: &(impl Files + Print), graph: &mut MultiPortGraph, order: Order, text: &[u8])
     requires { MultiWf graph.old }
